@@ -1,0 +1,6 @@
+pub mod Numbers
+pub mod WellMade
+pub mod Layout
+pub mod Reading
+pub mod Ending
+pub mod RoundTrip
