@@ -1,0 +1,3 @@
+pub mod Twelves
+pub mod Tested
+pub mod Opened

@@ -1,0 +1,99 @@
+//! A trace file as a feed of its records.
+
+ghost use mathlib.Core.Path.{_≡_, refl};
+ghost use denote.Ref.{now};
+ghost use Rattle.std.specs.Results.{Cases};
+ghost use Rattle.std.specs.declared.result.Result.the-variants.{Ok, Err};
+ghost use Rattle.feed.specs.Pile.{bottom};
+ghost use Rattle.trace_file.specs.Layout.{slotAt};
+ghost use Rattle.trace_file.specs.Opening.{opened, inRange, fileMeaning};
+ghost use Rattle.trace_file.specs.Sound.{fileSound, fileFound};
+use crate::layout::Header;
+use crate::layout::MOST_RECORDS;
+use feed::Feed;
+use feed::Refusal;
+use record::Counts;
+use record::Damage;
+use record::Record;
+
+/// The records of a trace file, from lent bytes.
+#[derive(Drop)]
+pub struct TraceFile<'a> {
+    counts: Counts,
+    /// The bytes behind the header.
+    records: &'a [u8],
+    /// How many of them were read.
+    at: usize,
+}
+
+impl<'a> TraceFile<'a> {
+    /// Opens the bytes as a trace file.
+    ///
+    /// Refuses a short header, a number of threads or addresses or records out of range, and a broken layout, tested in this order.
+    pub fn open(bytes: &'a [u8]) -> Result<TraceFile<'a>, Refusal>
+        ensures { λ r. ⌜ Cases r (λ f. opened (now (bytes .entry)) ≡ Ok (fileMeaning (f .counts) (now (f .records)) (f .at))) (λ e. opened (now (bytes .entry)) ≡ Err e) ⌝ }
+    {
+        let header = Header::read(bytes)?;
+        let counts = header.test(MOST_RECORDS, header.length as usize == bytes.len())?;
+        Ok(TraceFile {
+            counts,
+            records: &bytes[16..],
+            at: 0,
+        })
+    }
+
+    /// The twelve bytes of the next record, if so many are left.
+    fn slot(&self) -> Option<[u8; 12]>
+        ensures { λ r. ⌜ r ≡ slotAt (now (now (self .entry) .records)) (now (self .entry) .at) ⌝ }
+    {
+        let records = self.records;
+        if self.at > records.len() {
+            return None;
+        }
+        first_twelve(&records[self.at..])
+    }
+}
+
+/// The first twelve bytes, if there are so many.
+fn first_twelve(bytes: &[u8]) -> Option<[u8; 12]>
+    ensures { λ r. ⌜ r ≡ slotAt (now (bytes .entry)) 0 ⌝ }
+{
+    let [k, t, a0, a1, w, m, n0, n1, v0, v1, v2, v3, ..] = bytes else {
+        return None;
+    };
+    Some([*k, *t, *a0, *a1, *w, *m, *n0, *n1, *v0, *v1, *v2, *v3])
+}
+
+pub impl Feed for TraceFile<'_> as TraceFileFeed {
+    ghost meaning = { λ s. fileMeaning (s .counts) (now (s .records)) (s .at) };
+
+    ghost pile = { λ s. bottom (fileMeaning (s .counts) (now (s .records)) (s .at)) };
+
+    ghost unread = { λ _. Unit {0} };
+
+    ghost laws = { record { sound = λ s. fileSound (s .counts) (now (s .records)) (s .at); proper = λ s _. (fileSound (s .counts) (now (s .records)) (s .at), fileFound (s .counts) (now (s .records)) (s .at)); opens = λ s _. refl } };
+
+    fn counts(&self) -> Counts {
+        Counts {
+            threads: self.counts.threads.min(8).max(1),
+            addresses: self.counts.addresses.min(64).max(1),
+        }
+    }
+
+    fn next(&mut self) -> Result<Option<Record>, Damage> {
+        let Some(bytes) = self.slot() else {
+            return Ok(None);
+        };
+        match Record::decode(&bytes, self.counts(), None) {
+            Ok(record) => {
+                self.at += 12;
+                Ok(Some(record))
+            }
+            Err(cause) => Err(Damage {
+                cause,
+                place: self.at / 12,
+                depth: 0,
+            }),
+        }
+    }
+}
