@@ -1,3 +1,4 @@
 pub mod Twelves
 pub mod Tested
 pub mod Opened
+pub mod Appended

@@ -16,10 +16,10 @@ use Rattle.trace_file.specs.declared.layout.Header.{Header}
 use Rattle.trace_file.specs.Layout.{traceLength}
 use Rattle.trace_file.specs.Opening.{outside, countsTested, laidOut, layoutTested, headerTested, inRange}
 
-never : {R E : Type 0} (x : E) (r : R) → _≡_ {A = Result R E} (Err x) (Ok r) → ⊥
+pub never : {R E : Type 0} (x : E) (r : R) → _≡_ {A = Result R E} (Err x) (Ok r) → ⊥
 never x r e = let z : _≡_ {A = ℕ} 0 1 = cc in omega arith
 
-peel : {R E : Type 0} (b : Bool) (x : E) (rest : Result R E) (r : R) → cond b (Err x) rest ≡ Ok r → (b ≡ false) × (rest ≡ Ok r)
+pub peel : {R E : Type 0} (b : Bool) (x : E) (rest : Result R E) (r : R) → cond b (Err x) rest ≡ Ok r → (b ≡ false) × (rest ≡ Ok r)
 peel true x rest r e = absurd (never x r e)
 peel false x rest r e = (refl, e)
 
@@ -27,7 +27,7 @@ unpeel : {R E : Type 0} (b : Bool) (x : E) (y r : R) → cond b (Ok y) (Err x) �
 unpeel true x y r e = (refl, cc)
 unpeel false x y r e = absurd (never x r e)
 
-inner : {R E : Type 0} (x y : R) → _≡_ {A = Result R E} (Ok x) (Ok y) → x ≡ y
+pub inner : {R E : Type 0} (x y : R) → _≡_ {A = Result R E} (Ok x) (Ok y) → x ≡ y
 inner x y e = cc
 
 inside : (most n : ℕ) → outside most n ≡ false → (1 ≤ n) × (n ≤ most)

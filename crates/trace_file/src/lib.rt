@@ -1,9 +1,19 @@
 //! Trace files: reading one from lent bytes, and writing one into a lent buffer.
 
+mod faults;
 mod layout;
+mod opening;
 mod reading;
+mod writing;
 
+pub use faults::RefusalFromUnwritten;
+pub use faults::Unwritten;
+pub use faults::UnwrittenFromCause;
 pub use layout::HEADER_BYTES;
 pub use layout::MOST_RECORDS;
 pub use reading::TraceFile;
 pub use reading::TraceFileFeed;
+pub use writing::append;
+pub use writing::append_test;
+pub use writing::begin;
+pub use writing::write_record;

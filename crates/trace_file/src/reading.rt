@@ -2,16 +2,11 @@
 
 ghost use mathlib.Core.Path.{_≡_, refl};
 ghost use denote.Ref.{now};
-ghost use Rattle.std.specs.Results.{Cases};
-ghost use Rattle.std.specs.declared.result.Result.the-variants.{Ok, Err};
 ghost use Rattle.feed.specs.Pile.{bottom};
 ghost use Rattle.trace_file.specs.Layout.{slotAt};
-ghost use Rattle.trace_file.specs.Opening.{opened, inRange, fileMeaning};
+ghost use Rattle.trace_file.specs.Opening.{fileMeaning};
 ghost use Rattle.trace_file.specs.Sound.{fileSound, fileFound};
-use crate::layout::Header;
-use crate::layout::MOST_RECORDS;
 use feed::Feed;
-use feed::Refusal;
 use record::Counts;
 use record::Damage;
 use record::Record;
@@ -19,29 +14,14 @@ use record::Record;
 /// The records of a trace file, from lent bytes.
 #[derive(Drop)]
 pub struct TraceFile<'a> {
-    counts: Counts,
+    pub(crate) counts: Counts,
     /// The bytes behind the header.
-    records: &'a [u8],
+    pub(crate) records: &'a [u8],
     /// How many of them were read.
-    at: usize,
+    pub(crate) at: usize,
 }
 
-impl<'a> TraceFile<'a> {
-    /// Opens the bytes as a trace file.
-    ///
-    /// Refuses a short header, a number of threads or addresses or records out of range, and a broken layout, tested in this order.
-    pub fn open(bytes: &'a [u8]) -> Result<TraceFile<'a>, Refusal>
-        ensures { λ r. ⌜ Cases r (λ f. opened (now (bytes .entry)) ≡ Ok (fileMeaning (f .counts) (now (f .records)) (f .at))) (λ e. opened (now (bytes .entry)) ≡ Err e) ⌝ }
-    {
-        let header = Header::read(bytes)?;
-        let counts = header.test(MOST_RECORDS, header.length as usize == bytes.len())?;
-        Ok(TraceFile {
-            counts,
-            records: &bytes[16..],
-            at: 0,
-        })
-    }
-
+impl TraceFile<'_> {
     /// The twelve bytes of the next record, if so many are left.
     fn slot(&self) -> Option<[u8; 12]>
         ensures { λ r. ⌜ r ≡ slotAt (now (now (self .entry) .records)) (now (self .entry) .at) ⌝ }

@@ -1,0 +1,31 @@
+//! Opening lent bytes as a trace file.
+
+ghost use mathlib.Core.Path.{_≡_};
+ghost use Rattle.std.specs.Results.{Cases};
+ghost use Rattle.std.specs.Vec.{made};
+ghost use Rattle.std.specs.declared.result.Result.the-variants.{Ok, Err};
+ghost use Rattle.feed.specs.Pile.{bottom};
+ghost use Rattle.trace_file.specs.Opening.{opened};
+ghost use Rattle.trace_file.specs.contracts.reading.TraceFileFeed.the-impl.{ghosts as feedOf};
+use crate::layout::Header;
+use crate::layout::MOST_RECORDS;
+use crate::reading::TraceFile;
+use feed::Refusal;
+
+impl<'a> TraceFile<'a> {
+    /// Opens the bytes as a trace file.
+    ///
+    /// Refuses a short header, a number of threads or addresses or records out of range, and a broken layout, tested in this order.
+    pub fn open(bytes: &'a [u8]) -> Result<TraceFile<'a>, Refusal>
+        ensures answer { λ r. ⌜ Cases r (λ f. opened (now (bytes .entry)) ≡ Ok (feedOf .meaning f)) (λ e. opened (now (bytes .entry)) ≡ Err e) ⌝ }
+        ensures bottom_of_its_pile { λ r. ⌜ made r (λ f. (feedOf .pile f ≡ bottom (feedOf .meaning f)) × feedOf .unread f) ⌝ }
+    {
+        let header = Header::read(bytes)?;
+        let counts = header.test(MOST_RECORDS, header.length as usize == bytes.len())?;
+        Ok(TraceFile {
+            counts,
+            records: &bytes[16..],
+            at: 0,
+        })
+    }
+}
