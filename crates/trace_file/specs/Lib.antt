@@ -2,3 +2,4 @@ pub mod Layout
 pub mod Opening
 pub mod Sound
 pub mod Writing
+pub mod Laws

@@ -1,6 +1,7 @@
 //! Trace files: reading one from lent bytes, and writing one into a lent buffer.
 
 mod faults;
+mod laws;
 mod layout;
 mod opening;
 mod reading;
@@ -9,6 +10,8 @@ mod writing;
 pub use faults::RefusalFromUnwritten;
 pub use faults::Unwritten;
 pub use faults::UnwrittenFromCause;
+pub use laws::one_trace_file;
+pub use laws::written_is_read;
 pub use layout::HEADER_BYTES;
 pub use layout::MOST_RECORDS;
 pub use reading::TraceFile;
