@@ -5,3 +5,4 @@ pub mod Appended
 pub mod Canonical
 pub mod Clean
 pub mod Written
+pub mod Copied

@@ -3,3 +3,4 @@ pub mod Opening
 pub mod Sound
 pub mod Writing
 pub mod Laws
+pub mod Copying

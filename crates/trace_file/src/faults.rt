@@ -1,10 +1,12 @@
-//! Why a record is not written, and what that comes to for a trace.
+//! Why a record is not written, and why a trace is not copied.
 
 ghost use mathlib.Core.Path.{_≡_};
 ghost use Rattle.trace_file.specs.Writing.{refusalOf};
+ghost use Rattle.trace_file.specs.declared.faults.Uncopied.the-variants.{Refused, Damaged};
 ghost use Rattle.trace_file.specs.declared.faults.Unwritten.the-variants.{BadRecord};
 use feed::Refusal;
 use record::Cause;
+use record::Damage;
 
 /// Why the record writer wrote nothing.
 #[derive(Clone, Copy)]
@@ -31,5 +33,30 @@ pub impl From<Unwritten> for Refusal as RefusalFromUnwritten {
             Unwritten::BadRecord(cause) => Refusal::NotWellMade(cause),
             Unwritten::ShortSlot => Refusal::NoRoom,
         }
+    }
+}
+
+/// Why a trace was not copied.
+#[derive(Clone, Copy)]
+pub enum Uncopied {
+    /// The source is no trace file, or the target is too short.
+    Refused(Refusal),
+    /// The source ends damaged.
+    Damaged(Damage),
+}
+
+pub impl From<Refusal> for Uncopied as UncopiedFromRefusal {
+    ghost converts = { λ e r. r ≡ Refused e };
+
+    fn from(refusal: Refusal) -> Uncopied {
+        Uncopied::Refused(refusal)
+    }
+}
+
+pub impl From<Damage> for Uncopied as UncopiedFromDamage {
+    ghost converts = { λ d r. r ≡ Damaged d };
+
+    fn from(damage: Damage) -> Uncopied {
+        Uncopied::Damaged(damage)
     }
 }

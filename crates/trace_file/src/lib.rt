@@ -1,5 +1,6 @@
 //! Trace files: reading one from lent bytes, and writing one into a lent buffer.
 
+mod copying;
 mod faults;
 mod laws;
 mod layout;
@@ -7,7 +8,11 @@ mod opening;
 mod reading;
 mod writing;
 
+pub use copying::copy_trace;
 pub use faults::RefusalFromUnwritten;
+pub use faults::Uncopied;
+pub use faults::UncopiedFromDamage;
+pub use faults::UncopiedFromRefusal;
 pub use faults::Unwritten;
 pub use faults::UnwrittenFromCause;
 pub use laws::one_trace_file;
