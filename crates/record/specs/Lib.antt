@@ -4,3 +4,4 @@ pub mod Layout
 pub mod Reading
 pub mod Ending
 pub mod RoundTrip
+pub mod Sentences

@@ -5,6 +5,7 @@ mod codec;
 mod kinds;
 mod laws;
 mod layout;
+mod text;
 
 pub use causes::Cause;
 pub use causes::CauseDebug;
@@ -54,3 +55,7 @@ pub use kinds::WriteRecordEq;
 pub use kinds::WriteRecordPartialEq;
 pub use laws::round_trips;
 pub use layout::RECORD_BYTES;
+pub use text::CauseDisplay;
+pub use text::ModeDisplay;
+pub use text::RecordDisplay;
+pub use text::SourceDisplay;

@@ -1,0 +1,5 @@
+use mathlib.Core.Path.{refl}
+use Rattle.record.proofs.text.initial.Needs as need
+
+pub returns : need.returns
+returns c = refl
