@@ -1,6 +1,9 @@
 //! Opening lent bytes as a trace file.
 
 ghost use mathlib.Core.Path.{_≡_};
+ghost use Prim.Native.Nat.{_/_};
+ghost use denote.Ref.{now};
+ghost use lib.ListN.{length, drop};
 ghost use Rattle.std.specs.Results.{Cases};
 ghost use Rattle.std.specs.Vec.{made};
 ghost use Rattle.std.specs.declared.result.Result.the-variants.{Ok, Err};
@@ -11,6 +14,7 @@ use crate::layout::Header;
 use crate::layout::MOST_RECORDS;
 use crate::reading::TraceFile;
 use feed::Refusal;
+use record::RECORD_BYTES;
 
 impl<'a> TraceFile<'a> {
     /// Opens the bytes as a trace file.
@@ -18,6 +22,7 @@ impl<'a> TraceFile<'a> {
     /// Refuses a short header, a number of threads or addresses or records out of range, and a broken layout, tested in this order.
     pub fn open(bytes: &'a [u8]) -> Result<TraceFile<'a>, Refusal>
         ensures answer { λ r. ⌜ Cases r (λ f. opened (now (bytes .entry)) ≡ Ok (feedOf .meaning f)) (λ e. opened (now (bytes .entry)) ≡ Err e) ⌝ }
+        ensures at_its_start { λ r. ⌜ made r (λ f. (f .at ≡ 0) × (now (f .records) ≡ drop 16 (now (bytes .entry)))) ⌝ }
         ensures bottom_of_its_pile { λ r. ⌜ made r (λ f. (feedOf .pile f ≡ bottom (feedOf .meaning f)) × feedOf .unread f) ⌝ }
     {
         let header = Header::read(bytes)?;
@@ -27,5 +32,19 @@ impl<'a> TraceFile<'a> {
             records: &bytes[16..],
             at: 0,
         })
+    }
+
+    /// How many records the file has, well made or not.
+    pub fn count(&self) -> usize
+        ensures { λ r. ⌜ r ≡ length (now (now (self .entry) .records)) / 12 ⌝ }
+    {
+        self.records.len() / RECORD_BYTES
+    }
+
+    /// How many records were read.
+    pub fn place(&self) -> usize
+        ensures { λ r. ⌜ r ≡ now (self .entry) .at / 12 ⌝ }
+    {
+        self.at / RECORD_BYTES
     }
 }
