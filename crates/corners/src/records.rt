@@ -30,30 +30,72 @@ fn cause_of(bytes: [u8; 12]) -> Option<Cause> {
 
 #[test]
 fn causes_in_order() -> Result<(), Fail> {
-    check_eq(cause_of([6, 9, 0, 9, 9, 9, 9, 9, 9, 9, 9, 9]), Some(Cause::UnknownKind))?;
-    check_eq(cause_of([2, 2, 0, 9, 9, 9, 0, 0, 0, 0, 0, 0]), Some(Cause::WrongThread))?;
-    check_eq(cause_of([2, 1, 0, 1, 9, 9, 0, 0, 0, 0, 0, 0]), Some(Cause::UnknownAddress))?;
-    check_eq(cause_of([2, 1, 0, 0, 9, 2, 0, 0, 0, 0, 0, 0]), Some(Cause::UnknownMode))?;
-    check_eq(cause_of([2, 1, 0, 0, 0, 1, 0, 0, 0, 0, 0, 0]), Some(Cause::UnknownSource))?;
-    check_eq(cause_of([2, 1, 0, 0, 255, 1, 0, 1, 0, 0, 0, 0]), Some(Cause::UnknownSource))?;
-    check_eq(cause_of([2, 1, 0, 0, 2, 1, 0, 1, 0, 0, 0, 0]), Some(Cause::UnknownSource))?;
-    check_eq(cause_of([1, 1, 0, 0, 0, 0, 0, 1, 0, 0, 0, 0]), Some(Cause::UnusedNotZero))
+    check_eq(
+        cause_of([6, 9, 0, 9, 9, 9, 9, 9, 9, 9, 9, 9]),
+        Some(Cause::UnknownKind),
+    )?;
+    check_eq(
+        cause_of([2, 2, 0, 9, 9, 9, 0, 0, 0, 0, 0, 0]),
+        Some(Cause::WrongThread),
+    )?;
+    check_eq(
+        cause_of([2, 1, 0, 1, 9, 9, 0, 0, 0, 0, 0, 0]),
+        Some(Cause::UnknownAddress),
+    )?;
+    check_eq(
+        cause_of([2, 1, 0, 0, 9, 2, 0, 0, 0, 0, 0, 0]),
+        Some(Cause::UnknownMode),
+    )?;
+    check_eq(
+        cause_of([2, 1, 0, 0, 0, 1, 0, 0, 0, 0, 0, 0]),
+        Some(Cause::UnknownSource),
+    )?;
+    check_eq(
+        cause_of([2, 1, 0, 0, 255, 1, 0, 1, 0, 0, 0, 0]),
+        Some(Cause::UnknownSource),
+    )?;
+    check_eq(
+        cause_of([2, 1, 0, 0, 2, 1, 0, 1, 0, 0, 0, 0]),
+        Some(Cause::UnknownSource),
+    )?;
+    check_eq(
+        cause_of([1, 1, 0, 0, 0, 0, 0, 1, 0, 0, 0, 0]),
+        Some(Cause::UnusedNotZero),
+    )
 }
 
 #[test]
 fn unused_fields() -> Result<(), Fail> {
-    check_eq(cause_of([3, 0, 0, 0, 0, 0, 0, 0, 0, 0, 0, 9]), Some(Cause::UnusedNotZero))?;
-    check_eq(cause_of([3, 0, 0, 0, 0, 2, 0, 0, 0, 0, 0, 0]), Some(Cause::UnusedNotZero))?;
-    check_eq(cause_of([4, 0, 0, 0, 0, 1, 0, 0, 0, 0, 0, 5]), Some(Cause::UnusedNotZero))?;
-    check_eq(cause_of([5, 0, 0, 1, 0, 0, 0, 0, 0, 0, 0, 5]), Some(Cause::UnusedNotZero))?;
+    check_eq(
+        cause_of([3, 0, 0, 0, 0, 0, 0, 0, 0, 0, 0, 9]),
+        Some(Cause::UnusedNotZero),
+    )?;
+    check_eq(
+        cause_of([3, 0, 0, 0, 0, 2, 0, 0, 0, 0, 0, 0]),
+        Some(Cause::UnusedNotZero),
+    )?;
+    check_eq(
+        cause_of([4, 0, 0, 0, 0, 1, 0, 0, 0, 0, 0, 5]),
+        Some(Cause::UnusedNotZero),
+    )?;
+    check_eq(
+        cause_of([5, 0, 0, 1, 0, 0, 0, 0, 0, 0, 0, 5]),
+        Some(Cause::UnusedNotZero),
+    )?;
     check_eq(cause_of([5, 0, 0, 0, 0, 0, 0, 0, 0, 0, 0, 5]), None)
 }
 
 #[test]
 fn a_log_has_one_thread() -> Result<(), Fail> {
     let fence = Record::Fence(FenceRecord { thread: 1 });
-    check_eq(Record::decode(&fence.encode(), FEW, Some(1)).ok(), Some(fence))?;
-    check_eq(Record::decode(&fence.encode(), FEW, Some(0)).err(), Some(Cause::WrongThread))
+    check_eq(
+        Record::decode(&fence.encode(), FEW, Some(1)).ok(),
+        Some(fence),
+    )?;
+    check_eq(
+        Record::decode(&fence.encode(), FEW, Some(0)).err(),
+        Some(Cause::WrongThread),
+    )
 }
 
 fn read_from(thread: u8, number: u16) -> Record {
@@ -69,9 +111,18 @@ fn read_from(thread: u8, number: u16) -> Record {
 #[test]
 fn values_that_are_not_well_made() -> Result<(), Fail> {
     check_eq(read_from(7, 65_535).check(MOST).err(), None)?;
-    check_eq(read_from(7, 0).check(MOST).err(), Some(Cause::UnknownSource))?;
-    check_eq(read_from(255, 0).check(MOST).err(), Some(Cause::UnknownSource))?;
-    check_eq(read_from(255, 1).check(MOST).err(), Some(Cause::UnknownSource))?;
+    check_eq(
+        read_from(7, 0).check(MOST).err(),
+        Some(Cause::UnknownSource),
+    )?;
+    check_eq(
+        read_from(255, 0).check(MOST).err(),
+        Some(Cause::UnknownSource),
+    )?;
+    check_eq(
+        read_from(255, 1).check(MOST).err(),
+        Some(Cause::UnknownSource),
+    )?;
     check_eq(read_from(7, 1).check(FEW).err(), Some(Cause::WrongThread))
 }
 
@@ -83,6 +134,12 @@ fn the_largest_record_round_trips() -> Result<(), Fail> {
         mode: Mode::Strict,
         value: u32::MAX,
     });
-    check_eq(write.encode(), [1, 7, 0, 63, 0, 1, 0, 0, 255, 255, 255, 255])?;
-    check_eq(Record::decode(&write.encode(), MOST, None).ok(), Some(write))
+    check_eq(
+        write.encode(),
+        [1, 7, 0, 63, 0, 1, 0, 0, 255, 255, 255, 255],
+    )?;
+    check_eq(
+        Record::decode(&write.encode(), MOST, None).ok(),
+        Some(write),
+    )
 }

@@ -34,7 +34,36 @@ fn refusal_of(bytes: &[u8]) -> Option<Refusal> {
 #[test]
 fn headers_that_are_refused() -> Result<(), Fail> {
     check_eq(refusal_of(&[0, 9, 0, 0, 0, 0]), Some(Refusal::ShortHeader))?;
-    let one = [0, 2, 0, 1, 0, 0, 0, 1, 0, 0, 0, 16, 0, 0, 0, 27, 3, 0, 0, 0, 0, 0, 0, 0, 0, 0, 0, 0];
+    let one = [
+        0,
+        2,
+        0,
+        1,
+        0,
+        0,
+        0,
+        1,
+        0,
+        0,
+        0,
+        16,
+        0,
+        0,
+        0,
+        27,
+        3,
+        0,
+        0,
+        0,
+        0,
+        0,
+        0,
+        0,
+        0,
+        0,
+        0,
+        0,
+    ];
     check_eq(refusal_of(&one), Some(Refusal::BrokenLayout))?;
     let empty = [0, 2, 0, 1, 0, 0, 0, 0, 0, 0, 0, 16, 0, 0, 0, 16];
     check_eq(refusal_of(&empty), None)?;

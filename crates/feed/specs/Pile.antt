@@ -1,7 +1,5 @@
 -- A pile: a feed, its bottom, with any number of relays above it.
 use mathlib.Core.Path.{_≡_}
-use Prim.Native.Nat.{ℕ}
-use Rattle.record.specs.declared.causes.Damage.{Damage}
 use Rattle.record.specs.Ending.{Ending, clean, damaged}
 use Rattle.feed.specs.Meaning.{Meaning, WellMade}
 

@@ -1,5 +1,5 @@
 -- What is read as a record is written as the same bytes, and is well made.
-use Prim.Native.Nat.{ℕ, _<_, _^_}
+use Prim.Native.Nat.{ℕ}
 use mathlib.Core.Path.{_≡_, refl, sym, ap, subst, _∙_}
 use mathlib.Core.Logic.{_⊎_, ⊎-elim}
 use mathlib.Core.Bool.{Bool, true, false, cond, not, _&&_, _||_}
@@ -16,11 +16,11 @@ use Rattle.std.specs.declared.result.Result.the-variants.{Ok, Err}
 use Rattle.record.specs.declared.kinds.Counts.{Counts}
 use Rattle.record.specs.declared.kinds.Source.the-variants.{Initial, Write as WriteOf}
 use Rattle.record.specs.declared.kinds.Record.{Record}
-use Rattle.record.specs.declared.kinds.Record.the-variants.{Write, Read, Fence, Notify, Wait}
+use Rattle.record.specs.declared.kinds.Record.the-variants.{Read}
 use Rattle.record.specs.declared.causes.Cause.the-variants.{UnknownKind, WrongThread, UnknownAddress, UnknownMode, UnknownSource, UnusedNotZero}
 use Rattle.record.specs.declared.layout.Fields.{Fields}
 use Rattle.record.specs.Numbers.{modeNumber}
-use Rattle.record.specs.Layout.{two, four, fieldsOf, fieldsFor, bytesFor}
+use Rattle.record.specs.Layout.{fieldsOf, fieldsFor, bytesFor}
 use Rattle.record.specs.Reading.{wrongThread, access, sourceNamed, unusedZero, modeOf, sourceOf, recordOf, fieldsRead}
 use Rattle.record.specs.RoundTrip.{AllBytes, Decoded-is-encoded, Decoded-is-well-made}
 use Rattle.record.specs.WellMade.{checked}

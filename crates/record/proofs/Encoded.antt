@@ -1,12 +1,12 @@
 -- What is written of a well-made record is read as that record.
 use Prim.Native.Nat.{ℕ, _<_, _^_}
 use mathlib.Core.Path.{_≡_, refl, ap, _∙_}
-use mathlib.Core.Bool.{Bool, true, false, cond, not, _&&_, _||_}
+use mathlib.Core.Bool.{false}
 use native.Mathlib.Omega.{arith}
-use lib.Dec.{lit<, eqb, ltb, leb}
+use lib.Dec.{lit<}
 use Rattle.std.proofs.shelf.Ways.{tells}
 use Rattle.std.specs.declared.option.Option.{Option}
-use Rattle.std.specs.declared.result.Result.the-variants.{Ok, Err}
+use Rattle.std.specs.declared.result.Result.the-variants.{Ok}
 use Rattle.record.specs.declared.kinds.Counts.{Counts}
 use Rattle.record.specs.declared.kinds.Mode.{Mode}
 use Rattle.record.specs.declared.kinds.Mode.the-variants.{Relaxed, Strict}

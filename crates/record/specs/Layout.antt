@@ -6,7 +6,6 @@ use Rattle.record.specs.declared.kinds.Record.{Record}
 use Rattle.record.specs.declared.kinds.Record.the-variants.{Write, Read, Fence, Notify, Wait}
 use Rattle.record.specs.declared.layout.Fields.{Fields}
 use Rattle.record.specs.Numbers.{kindNumber, modeNumber, sourceWriter, sourceNumber}
-use Rattle.record.specs.WellMade.{threadOf}
 
 -- the number that two bytes hold, the more significant first
 abbrev pub two : ℕ → ℕ → ℕ

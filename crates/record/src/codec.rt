@@ -193,10 +193,12 @@ impl Record {
             _ if self.thread() >= counts.threads => Err(Cause::WrongThread),
             Record::Write(WriteRecord { address, .. }) | Record::Read(ReadRecord { address, .. })
                 if address >= u16::from(counts.addresses) => Err(Cause::UnknownAddress),
-            Record::Read(ReadRecord {
-                source: Source::Write { thread, number },
-                ..
-            }) if thread >= counts.threads || number == 0 => Err(Cause::UnknownSource),
+            Record::Read(
+                ReadRecord {
+                    source: Source::Write { thread, number },
+                    ..
+                },
+            ) if thread >= counts.threads || number == 0 => Err(Cause::UnknownSource),
             _ => Ok(()),
         }
     }

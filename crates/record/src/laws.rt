@@ -7,5 +7,4 @@ pub fn round_trips()
     ensures encoded_is_decoded { λ _. ⌜ Encoded-is-decoded ⌝ }
     ensures decoded_is_encoded { λ _. ⌜ Decoded-is-encoded ⌝ }
     ensures decoded_is_well_made { λ _. ⌜ Decoded-is-well-made ⌝ }
-{
-}
+{}

@@ -52,19 +52,26 @@ pub impl fmt::Display for Record as RecordDisplay {
 
     fn fmt<W: fmt::Write>(&self, f: &mut fmt::Formatter<W>) -> fmt::Result {
         match *self {
-            Record::Write(WriteRecord {
-                thread,
-                address,
-                mode,
-                value,
-            }) => write!(f, "thread {thread} {mode}writes {value} to address {address}"),
-            Record::Read(ReadRecord {
-                thread,
-                address,
-                source,
-                mode,
-                value,
-            }) => write!(
+            Record::Write(
+                WriteRecord {
+                    thread,
+                    address,
+                    mode,
+                    value,
+                },
+            ) => write!(
+                f,
+                "thread {thread} {mode}writes {value} to address {address}"
+            ),
+            Record::Read(
+                ReadRecord {
+                    thread,
+                    address,
+                    source,
+                    mode,
+                    value,
+                },
+            ) => write!(
                 f,
                 "thread {thread} {mode}reads {value} from address {address}, {source}"
             ),

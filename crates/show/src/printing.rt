@@ -43,7 +43,10 @@ fn print_file(rt: &LibcRuntime, mut file: TraceFile<'_>) -> io::Result<Option<Da
 {
     let Counts { threads, addresses } = file.counts();
     let count = file.count();
-    println!(rt, "threads {threads}, addresses {addresses}, records {count}")?;
+    println!(
+        rt,
+        "threads {threads}, addresses {addresses}, records {count}"
+    )?;
     let ending = print_records(rt, &mut file)?;
     match ending {
         Some(Damage { cause, place, .. }) => {

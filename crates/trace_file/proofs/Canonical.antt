@@ -1,31 +1,26 @@
 -- The trace file of a list of records: its header, one record more, and what it opens as.
-use Prim.Native.Nat.{ℕ, zero, suc, _+_, _*_, _-_, _<_, _≤_, _^_}
+use Prim.Native.Nat.{ℕ, _+_, _*_, _-_, _<_, _≤_}
 use mathlib.Core.Path.{_≡_, refl, sym, ap, subst, _∙_}
 use mathlib.Core.Bool.{Bool, true, false, cond, _&&_}
 use mathlib.Core.List.{List, [], _∷_, _++_, map}
 use native.Mathlib.Omega.{arith}
-use native.Mathlib.Numerals.{add-one}
 use lib.Dec.{eqb, ltb, leb}
-use lib.ListN.{length, getD, take, drop}
+use lib.ListN.{length, take, drop}
 use borrow.Author.Tests.{eq-eqb}
-use Rattle.std.proofs.shelf.Lists.{append-nil, append-assoc, length-append, length-push, length-drop, take-at, drop-at, drop-drop, take-append-drop}
+use Rattle.std.proofs.shelf.Lists.{append-nil, append-assoc, length-append, length-push, length-drop, take-at, drop-at, drop-drop}
 use Rattle.std.proofs.shelf.Ways.{tells}
 use Rattle.std.specs.declared.option.Option.the-variants.{None}
-use Rattle.std.specs.declared.result.Result.{Result}
 use Rattle.std.specs.declared.result.Result.the-variants.{Ok, Err}
 use Rattle.record.specs.declared.kinds.Counts.{Counts}
 use Rattle.record.specs.declared.kinds.Record.{Record}
-use Rattle.record.specs.declared.causes.Cause.{Cause}
 use Rattle.record.specs.Ending.{clean}
 use Rattle.record.specs.Layout.{bytesOf}
-use Rattle.record.specs.Reading.{decoded}
 use Rattle.record.specs.RoundTrip.{CountsFit}
 use Rattle.record.specs.WellMade.{checked}
 use Rattle.record.proofs.Numerals.{two-joined, four-joined}
 use Rattle.record.proofs.Encoded.{encoded-is-decoded}
-use Rattle.feed.specs.declared.refusals.Refusal.{Refusal}
 use Rattle.feed.specs.declared.refusals.Refusal.the-variants.{ShortHeader, ThreadCount, AddressCount, RecordCount, BrokenLayout}
-use Rattle.feed.specs.Meaning.{Meaning, CountsInRange, AllWellMade}
+use Rattle.feed.specs.Meaning.{CountsInRange, AllWellMade}
 use Rattle.feed.specs.Delivery.{wellMadeOnes, endingAfter, delivering}
 use Rattle.trace_file.specs.declared.layout.Header.{Header}
 use Rattle.trace_file.specs.Layout.{traceLength, headerBytes, recordBytes, traceOf, headerOf, twelves}
@@ -93,8 +88,8 @@ appended-more c xs rest x r h =
     let front : take (traceLength n) bs ≡ traceOf c xs = take-at (traceOf c xs) rest (traceLength n) (length-trace c xs) in
     let back : drop (traceLength n + 12) bs ≡ drop 12 rest = sym (drop-drop 12 (traceLength n) bs) ∙ ap (drop 12) (drop-at (traceOf c xs) rest (traceLength n) (length-trace c xs)) in
     let put : placed (traceLength n) (bytesOf x) bs ≡ headerBytes c n ++ ((recordBytes xs ++ bytesOf x) ++ drop 12 rest) =
-      (λ i. front i ++ (bytesOf x ++ back i))
-      ∙ (append-assoc (headerBytes c n) (recordBytes xs) (bytesOf x ++ drop 12 rest) ∙ ap (λ l. headerBytes c n ++ l) (sym (append-assoc (recordBytes xs) (bytesOf x) (drop 12 rest)))) in
+    (λ i. front i ++ (bytesOf x ++ back i))
+    ∙ (append-assoc (headerBytes c n) (recordBytes xs) (bytesOf x ++ drop 12 rest) ∙ ap (λ l. headerBytes c n ++ l) (sym (append-assoc (recordBytes xs) (bytesOf x) (drop 12 rest)))) in
     ap (λ g. counted (g .count + 1) (placed (traceLength (g .count)) (bytesOf x) bs)) (trace-header c xs rest r h)
     ∙ (ap (counted (n + 1)) put
     ∙ (ap (λ k. headerBytes c k ++ ((recordBytes xs ++ bytesOf x) ++ drop 12 rest)) (sym (length-push xs x))

@@ -1,7 +1,7 @@
 -- Bytes that open and end clean are the trace file of their counts and records.
-use Prim.Native.Nat.{ℕ, zero, suc, _+_, _*_, _-_, _<_, _≤_}
+use Prim.Native.Nat.{ℕ, zero, suc, _+_, _*_, _<_, _≤_}
 use mathlib.Core.Path.{_≡_, refl, sym, ap, subst, _∙_}
-use mathlib.Core.Bool.{Bool, true, false, cond}
+use mathlib.Core.Bool.{Bool}
 use mathlib.Core.List.{List, [], _∷_, _++_}
 use native.Mathlib.Omega.{arith}
 use lib.Dec.{eqb, ltb}
@@ -15,7 +15,7 @@ use Rattle.std.specs.declared.result.Result.the-variants.{Ok, Err}
 use Rattle.record.specs.declared.kinds.Counts.{Counts}
 use Rattle.record.specs.declared.kinds.Record.{Record}
 use Rattle.record.specs.declared.causes.Cause.{Cause}
-use Rattle.record.specs.Ending.{Ending, clean, damaged}
+use Rattle.record.specs.Ending.{clean, damaged}
 use Rattle.record.specs.Layout.{two, four, bytesOf}
 use Rattle.record.specs.Reading.{decoded}
 use Rattle.record.specs.RoundTrip.{AllBytes}
@@ -25,8 +25,7 @@ use Rattle.feed.specs.declared.refusals.Refusal.{Refusal}
 use Rattle.feed.specs.declared.refusals.Refusal.the-variants.{ShortHeader}
 use Rattle.feed.specs.Meaning.{Meaning}
 use Rattle.feed.specs.Delivery.{wellMadeOnes, endingAfter, delivering}
-use Rattle.trace_file.specs.declared.layout.Header.{Header}
-use Rattle.trace_file.specs.Layout.{twoBytes, fourBytes, traceLength, headerBytes, recordBytes, traceOf, headerOf, twelves}
+use Rattle.trace_file.specs.Layout.{twoBytes, fourBytes, headerBytes, recordBytes, traceOf, headerOf, twelves}
 use Rattle.trace_file.specs.Opening.{headerTested, readAs, opened, openedUnder}
 use Rattle.trace_file.specs.Laws.{Clean-is-its-trace, One-trace-file}
 use Rattle.trace_file.proofs.Tested.{HeaderPassed, header-passed, peel, never, inner}

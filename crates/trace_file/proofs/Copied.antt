@@ -4,24 +4,22 @@ use mathlib.Core.Path.{_≡_, refl, sym, ap, subst, _∙_}
 use mathlib.Core.Bool.{false, cond}
 use mathlib.Core.List.{List, _++_}
 use native.Mathlib.Omega.{arith}
-use lib.Dec.{ltb, eqb}
+use lib.Dec.{ltb}
 use lib.ListN.{length, drop}
 use borrow.Author.Tests.{eqb-true}
 use Rattle.std.proofs.shelf.Ways.{tells}
-use Rattle.std.specs.declared.result.Result.{Result}
 use Rattle.std.specs.declared.result.Result.the-variants.{Ok, Err}
 use Rattle.record.specs.declared.kinds.Counts.{Counts}
-use Rattle.record.specs.declared.causes.Damage.{Damage}
 use Rattle.record.specs.Ending.{Ending, clean, damaged}
 use Rattle.record.specs.RoundTrip.{AllBytes}
 use Rattle.feed.specs.declared.refusals.Refusal.the-variants.{ShortHeader, NoRoom}
 use Rattle.feed.specs.Meaning.{Meaning, WellMade}
 use Rattle.trace_file.specs.declared.faults.Uncopied.the-variants.{Refused}
-use Rattle.trace_file.specs.Layout.{traceLength, traceOf, headerOf}
+use Rattle.trace_file.specs.Layout.{traceLength, headerOf}
 use Rattle.trace_file.specs.Opening.{opened}
 use Rattle.trace_file.specs.Writing.{begun}
 use Rattle.trace_file.specs.Laws.{AllGranted, allAppended}
-use Rattle.trace_file.specs.Copying.{endedClean, roomTested, copyTested, copiesUnder, copies, copied}
+use Rattle.trace_file.specs.Copying.{endedClean, copyTested, copiesUnder, copies, copied}
 use Rattle.trace_file.proofs.Tested.{never, inner}
 use Rattle.trace_file.proofs.Canonical.{length-trace, granted-from-begun, appended-to-begun}
 use Rattle.trace_file.proofs.Clean.{opened-bytes, clean-is-its-trace}

@@ -1,12 +1,12 @@
 -- Bytes taken twelve at a time.
-use mathlib.Core.Path.{_≡_, refl, sym, ap, _∙_}
+use mathlib.Core.Path.{_≡_, refl, ap, _∙_}
 use mathlib.Core.Bool.{Bool, true, false, cond}
 use mathlib.Core.List.{List, [], _∷_}
 use Prim.Native.Nat.{ℕ, suc, _+_, _-_, _/_, _<_, _≤_}
 use native.Mathlib.Omega.{arith}
 use lib.Dec.{ltb}
 use lib.ListN.{length, getD, take, drop, length-drop}
-use borrow.Author.Tests.{ltb-false}
+use borrow.Author.Tests.{ltb-true, ltb-false}
 use Rattle.std.proofs.shelf.Counted.{fill-by-all}
 use Rattle.std.proofs.shelf.Lists.{length-take-le, getD-take, drop-drop, take-rest}
 use Rattle.std.proofs.shelf.Ways.{tells}
@@ -46,3 +46,10 @@ slot-rest bs at h =
     let l = length-drop at bs in
     let e : ltb (length (drop at bs)) (0 + 12) ≡ ltb (length bs) (at + 12) = grind (arith, tells) in
     ap (λ l. slotAt l 0) (take-rest bs at) ∙ ap (λ b. cond b None (Some (take 12 (drop at bs)))) e
+
+none-cases : (bs : List ℕ) (at : ℕ) (b : Bool) → ltb (length bs) (at + 12) ≡ b → None ≡ cond b None (Some (take 12 (drop at bs))) → length bs < at + 12
+none-cases bs at true e q = ltb-true (length bs) (at + 12) e
+none-cases bs at false e q = let z : _≡_ {A = ℕ} 0 1 = cc in absurd (let f : ⊥ = omega arith in f)
+
+pub slot-none : (bs : List ℕ) (at : ℕ) → None ≡ slotAt bs at → length bs < at + 12
+slot-none bs at q = none-cases bs at (ltb (length bs) (at + 12)) refl q

@@ -1,9 +1,10 @@
 -- Which bytes open as a trace file, and what they then mean.
 use Prim.Native.Nat.{ℕ, _+_, _*_, _-_, _/_, min, max}
+use mathlib.Core.Path.{_≡_}
 use mathlib.Core.Bool.{Bool, true, false, cond, not, _&&_, _||_}
 use mathlib.Core.List.{List, map}
 use lib.Dec.{eqb, ltb, leb}
-use lib.ListN.{length, drop}
+use lib.ListN.{length, take, drop}
 use Rattle.std.specs.declared.option.Option.the-variants.{None}
 use Rattle.std.specs.declared.result.Result.{Result}
 use Rattle.std.specs.declared.result.Result.the-variants.{Ok, Err}
@@ -62,3 +63,7 @@ abbrev pub opened : List ℕ → Result Meaning Refusal
 opened bs =
     cond (ltb (length bs) 16) (Err ShortHeader)
     (openedUnder bs (headerTested 4096 (eqb (headerOf bs .«length») (length bs)) (headerOf bs)))
+
+-- the bytes open, and mean what their part behind the header means to one who has read nothing of it
+abbrev pub OpensBehind : List ℕ → Counts → Type 0
+OpensBehind bs c = (behind : List ℕ) → behind ≡ take (length bs - 16) (drop 16 bs) → (opened bs ≡ Ok (fileMeaning c behind 0)) × (behind ≡ drop 16 bs)

@@ -2,9 +2,10 @@
 
 ghost use mathlib.Core.Path.{_≡_};
 ghost use mathlib.Core.Bool.{cond};
-ghost use Prim.Native.Nat.{_<_};
+ghost use Prim.Native.Nat.{_≤_};
 ghost use lib.Dec.{ltb};
 ghost use lib.ListN.{length};
+ghost use Rattle.std.specs.Vec.{made};
 ghost use Rattle.std.specs.declared.result.Result.the-variants.{Ok, Err};
 ghost use Rattle.feed.specs.declared.refusals.Refusal.the-variants.{ShortHeader};
 ghost use Rattle.trace_file.specs.Layout.{headerOf};
@@ -78,7 +79,8 @@ impl Header {
 
     /// The header at the front of the bytes, if they are as many as it has.
     pub fn read(bytes: &[u8]) -> Result<Header, Refusal>
-        ensures { λ r. ⌜ r ≡ cond (ltb (length (now (bytes .entry))) 16) (Err ShortHeader) (Ok (headerOf (now (bytes .entry)))) ⌝ }
+        ensures answer { λ r. ⌜ r ≡ cond (ltb (length (now (bytes .entry))) 16) (Err ShortHeader) (Ok (headerOf (now (bytes .entry)))) ⌝ }
+        ensures whole { λ r. ⌜ made r (λ h. (16 ≤ length (now (bytes .entry))) × (h ≡ headerOf (now (bytes .entry)))) ⌝ }
     {
         let [
             t0,
@@ -97,7 +99,7 @@ impl Header {
             l1,
             l2,
             l3,
-            ..,
+            ..
         ] = bytes
         else {
             return Err(Refusal::ShortHeader);

@@ -5,8 +5,10 @@ ghost use denote.Ref.{now};
 ghost use Rattle.feed.specs.Pile.{bottom};
 ghost use Rattle.trace_file.specs.Layout.{slotAt};
 ghost use Rattle.trace_file.specs.Opening.{fileMeaning};
+ghost use Rattle.trace_file.specs.Peeking.{Peeked};
 ghost use Rattle.trace_file.specs.Sound.{fileSound, fileFound};
 use feed::Feed;
+use record::Cause;
 use record::Counts;
 use record::Damage;
 use record::Record;
@@ -22,15 +24,16 @@ pub struct TraceFile<'a> {
 }
 
 impl TraceFile<'_> {
-    /// The twelve bytes of the next record, if so many are left.
-    fn slot(&self) -> Option<[u8; 12]>
-        ensures { λ r. ⌜ r ≡ slotAt (now (now (self .entry) .records)) (now (self .entry) .at) ⌝ }
+    /// What the next twelve bytes are read as, if so many are left.
+    fn peek(&self) -> Option<Result<Record, Cause>>
+        ensures { λ r. ⌜ Peeked (now (self .entry) .counts) (now (now (self .entry) .records)) (now (self .entry) .at) r ⌝ }
     {
         let records = self.records;
         if self.at > records.len() {
             return None;
         }
-        first_twelve(&records[self.at..])
+        let bytes = first_twelve(&records[self.at..])?;
+        Some(Record::decode(&bytes, self.counts(), None))
     }
 }
 
@@ -61,15 +64,13 @@ pub impl Feed for TraceFile<'_> as TraceFileFeed {
     }
 
     fn next(&mut self) -> Result<Option<Record>, Damage> {
-        let Some(bytes) = self.slot() else {
-            return Ok(None);
-        };
-        match Record::decode(&bytes, self.counts(), None) {
-            Ok(record) => {
+        match self.peek() {
+            None => Ok(None),
+            Some(Ok(record)) => {
                 self.at += 12;
                 Ok(Some(record))
             }
-            Err(cause) => Err(Damage {
+            Some(Err(cause)) => Err(Damage {
                 cause,
                 place: self.at / 12,
                 depth: 0,

@@ -6,9 +6,12 @@ ghost use mathlib.Core.List.{_++_};
 ghost use Prim.Native.Nat.{ℕ, _+_, _*_, _<_, _≤_};
 ghost use lib.ListN.{length, drop};
 ghost use Rattle.std.specs.Results.{isOk};
+ghost use Rattle.std.specs.Vec.{made};
 ghost use Rattle.record.specs.Layout.{bytesOf};
-ghost use Rattle.trace_file.specs.Layout.{headerBytes};
-ghost use Rattle.trace_file.specs.Writing.{writable, begins, begun, appendTested, appends, counted, appended};
+ghost use Rattle.std.specs.declared.result.Result.the-variants.{Ok};
+ghost use Rattle.record.specs.WellMade.{checked};
+ghost use Rattle.trace_file.specs.Layout.{headerBytes, headerOf, traceLength};
+ghost use Rattle.trace_file.specs.Writing.{writable, begins, begun, appendTested, appends, placed, counted, appended};
 use crate::faults::RefusalFromUnwritten;
 use crate::faults::Unwritten;
 use crate::faults::UnwrittenFromCause;
@@ -44,6 +47,13 @@ pub fn write_record(slot: &mut [u8], record: Record, counts: Counts) -> Result<(
     Ok(())
 }
 
+/// How many bytes a trace of so many records has.
+fn trace_length(count: u32) -> usize
+    ensures { λ r. ⌜ r ≡ traceLength count ⌝ }
+{
+    HEADER_BYTES + RECORD_BYTES * count as usize
+}
+
 /// The sixteen bytes of the header of an empty trace.
 fn empty_header(counts: Counts) -> [u8; 16]
     ensures { λ r. ⌜ r ≡ headerBytes counts 0 ⌝ }
@@ -70,7 +80,8 @@ pub fn begin(buf: &mut [u8], counts: Counts) -> Result<usize, Refusal>
 
 /// The counts of a trace with this header, in a buffer of `room` bytes, that takes one more record.
 fn may_append(header: Header, room: usize, record: Record) -> Result<Counts, Refusal>
-    ensures { λ r. ⌜ r ≡ appendTested header room «record» ⌝ }
+    ensures answer { λ r. ⌜ r ≡ appendTested header room «record» ⌝ }
+    ensures fits { λ r. ⌜ made r (λ c. (traceLength (header .count) + 12 ≤ room) × (header .count < 4096) × (checked c «record» ≡ Ok tt)) ⌝ }
 {
     let length = header.length as usize;
     let counts = header.test(MOST_RECORDS - 1, length <= room)?;
@@ -84,24 +95,16 @@ pub fn append_test(buf: &[u8], record: Record) -> Result<usize, Refusal>
 {
     let header = Header::read(buf)?;
     may_append(header, buf.len(), record)?;
-    Ok(HEADER_BYTES + RECORD_BYTES * (header.count as usize + 1))
+    Ok(trace_length(header.count + 1))
 }
 
-/// Puts the count and the length of a trace of so many records into its header.
-fn set_count(buf: &mut [u8], count: u32)
-    requires { ⌜ 16 ≤ length (now buf) ⌝ ∗ ⌜ count ≤ 4096 ⌝ }
-    ensures { λ _. ⌜ now (buf .exit) ≡ counted count (now (buf .entry)) ⌝ }
-{
-    buf[4..8].copy_from_slice(&count.to_be_bytes());
-    buf[12..16].copy_from_slice(&(16 + 12 * count).to_be_bytes());
-}
-
-/// Writes the record behind the last one of the trace in the buffer, raises count and length, and returns the length.
-///
-/// Refuses in this order: a short header, a number of threads or addresses out of range, a full trace, a broken layout, a record that is not well made, and a buffer with no room behind the trace. The buffer is then as before.
-pub fn append(buf: &mut [u8], record: Record) -> Result<usize, Refusal>
-    ensures answer { λ r. ⌜ r ≡ appends (now (buf .entry)) «record» ⌝ }
-    ensures after { λ r. ⌜ now (buf .exit) ≡ cond (isOk r) (appended (now (buf .entry)) «record») (now (buf .entry)) ⌝ }
+/// Lends the twelve bytes behind the last record of the trace in the buffer to the record writer.
+fn put_record(buf: &mut [u8], record: Record, counts: Counts) -> Result<(), Unwritten>
+    requires room { ⌜ traceLength (headerOf (now buf) .count) + 12 ≤ length (now buf) ⌝ }
+    requires few { ⌜ headerOf (now buf) .count < 4096 ⌝ }
+    requires well_made { ⌜ checked counts «record» ≡ Ok tt ⌝ }
+    ensures answer { λ r. ⌜ r ≡ Ok tt ⌝ }
+    ensures after { λ _. ⌜ now (buf .exit) ≡ placed (traceLength (headerOf (now (buf .entry)) .count)) (bytesOf «record») (now (buf .entry)) ⌝ }
 {
     let [
         t0,
@@ -123,15 +126,50 @@ pub fn append(buf: &mut [u8], record: Record) -> Result<usize, Refusal>
         ref mut rest @ ..,
     ] = *buf
     else {
-        return Err(Refusal::ShortHeader);
+        return Err(Unwritten::ShortSlot);
     };
     let header = Header::of([
-        t0, t1, a0, a1, n0, n1, n2, n3, o0, o1, o2, o3, l0, l1, l2, l3,
+        t0,
+        t1,
+        a0,
+        a1,
+        n0,
+        n1,
+        n2,
+        n3,
+        o0,
+        o1,
+        o2,
+        o3,
+        l0,
+        l1,
+        l2,
+        l3,
     ]);
-    let counts = may_append(header, HEADER_BYTES + rest.len(), record)?;
     let start = RECORD_BYTES * header.count as usize;
     let end = start + RECORD_BYTES;
-    write_record(&mut rest[start..end], record, counts)?;
+    write_record(&mut rest[start..end], record, counts)
+}
+
+/// Puts the count and the length of a trace of so many records into its header.
+fn set_count(buf: &mut [u8], count: u32)
+    requires { ⌜ 16 ≤ length (now buf) ⌝ ∗ ⌜ count ≤ 4096 ⌝ }
+    ensures { λ _. ⌜ now (buf .exit) ≡ counted count (now (buf .entry)) ⌝ }
+{
+    buf[4..8].copy_from_slice(&count.to_be_bytes());
+    buf[12..16].copy_from_slice(&(16 + 12 * count).to_be_bytes());
+}
+
+/// Writes the record behind the last one of the trace in the buffer, raises count and length, and returns the length.
+///
+/// Refuses in this order: a short header, a number of threads or addresses out of range, a full trace, a broken layout, a record that is not well made, and a buffer with no room behind the trace. The buffer is then as before.
+pub fn append(buf: &mut [u8], record: Record) -> Result<usize, Refusal>
+    ensures answer { λ r. ⌜ r ≡ appends (now (buf .entry)) «record» ⌝ }
+    ensures after { λ r. ⌜ now (buf .exit) ≡ cond (isOk r) (appended (now (buf .entry)) «record») (now (buf .entry)) ⌝ }
+{
+    let header = Header::read(buf)?;
+    let counts = may_append(header, buf.len(), record)?;
+    put_record(buf, record, counts)?;
     set_count(buf, header.count + 1);
-    Ok(HEADER_BYTES + end)
+    Ok(trace_length(header.count + 1))
 }

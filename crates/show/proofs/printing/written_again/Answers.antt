@@ -1,5 +1,5 @@
 use borrow.Author.Needs.{needs}
-use mathlib.Core.Path.{_≡_, sym, ap, _∙_}
+use mathlib.Core.Path.{_≡_, sym, _∙_}
 use lib.ListN.{length}
 use Rattle.std.proofs.shelf.Equals.{matches-decides}
 use Rattle.show.proofs.Again.{answered, came-out, told}
@@ -15,8 +15,8 @@ returns c =
     let a = answered bs (c .as-mut-slice .result .now) (c .copy-trace-copied .result) l (k .answer) in
     elim (c .if-is-ok .came) [
       | then-is-ok w ↦ (
-        let o = sym (c .is-ok .ensures .value) ∙ w .if-is-ok .taken in
-        let v = w .as-slice .ensures .value ∙ came-out bs (c .as-mut-slice .result .now) (c .copy-trace-copied .last .target) _ _ _ l n o (k .after) in
-        w .result-is ∙ told bs (w .as-slice .result .now) (w .eq .result) _ v (matches-decides _ _ _ (w .eq .ensures)) o a)
+          let o = sym (c .is-ok .ensures .value) ∙ w .if-is-ok .taken in
+          let v = w .as-slice .ensures .value ∙ came-out bs (c .as-mut-slice .result .now) (c .copy-trace-copied .last .target) _ _ _ l n o (k .after) in
+          w .result-is ∙ told bs (w .as-slice .result .now) (w .eq .result) _ v (matches-decides _ _ _ (w .eq .ensures)) o a)
       | else-is-ok w ↦ w .result-is ∙ (c .is-ok .ensures .value ∙ a)
     ]
