@@ -8,8 +8,8 @@ use Rattle.record.specs.declared.kinds.Counts.{Counts}
 use Rattle.record.specs.declared.kinds.Record.{Record}
 use Rattle.record.specs.declared.causes.Cause.{Cause}
 use Rattle.record.specs.Ending.{Ending, clean, damaged}
-use Rattle.record.specs.WellMade.{checked}
-use Rattle.feed.specs.Meaning.{Meaning, CountsInRange, AllWellMade, WellMade}
+use Rattle.record.specs.WellMade.{checked, AllWellMade}
+use Rattle.feed.specs.Meaning.{Meaning, CountsInRange, WellMade}
 use Rattle.feed.specs.Pile.{FoundHere}
 
 -- the records before the first that is not well made

@@ -10,7 +10,7 @@ use Rattle.record.specs.declared.kinds.Counts.{Counts}
 use Rattle.record.specs.declared.kinds.Record.{Record}
 use Rattle.record.specs.declared.causes.Damage.{Damage}
 use Rattle.record.specs.Ending.{Ending, clean, damaged}
-use Rattle.record.specs.WellMade.{checked}
+use Rattle.record.specs.WellMade.{AllWellMade}
 
 -- A feed's meaning: its counts, the records that still wait, the first to be delivered first, and how it ends.
 pub record Meaning : Type 0 where
@@ -24,11 +24,6 @@ pub record CountsInRange (c : Counts) : Type 0 where
   pub few-threads : c .threads ≤ 8
   pub some-address : 1 ≤ c .addresses
   pub few-addresses : c .addresses ≤ 64
-
--- every record of the list is well made
-abbrev pub AllWellMade : Counts → List Record → Type 0
-AllWellMade c [] = Unit {0}
-AllWellMade c (x ∷ xs) = (checked c x ≡ Ok tt) × AllWellMade c xs
 
 pub record WellMade (m : Meaning) : Type 0 where
   pub in-range : CountsInRange (m .counts)

@@ -1,6 +1,8 @@
 -- When a record is well made in a trace of so many threads and addresses.
 use Prim.Native.Nat.{ℕ}
+use mathlib.Core.Path.{_≡_}
 use mathlib.Core.Bool.{Bool, true, cond, not, _&&_}
+use mathlib.Core.List.{List, [], _∷_}
 use lib.Dec.{ltb}
 use Rattle.std.specs.declared.result.Result.{Result}
 use Rattle.std.specs.declared.result.Result.the-variants.{Ok, Err}
@@ -48,3 +50,8 @@ checked c x =
     (cond (not (addressKnown c x)) (Err UnknownAddress)
     (cond (not (sourceKnown c x)) (Err UnknownSource)
     (Ok tt)))
+
+-- every record of the list is well made
+abbrev pub AllWellMade : Counts → List Record → Type 0
+AllWellMade c [] = Unit {0}
+AllWellMade c (x ∷ xs) = (checked c x ≡ Ok tt) × AllWellMade c xs

@@ -16,11 +16,11 @@ use Rattle.record.specs.declared.kinds.Record.{Record}
 use Rattle.record.specs.Ending.{clean}
 use Rattle.record.specs.Layout.{bytesOf}
 use Rattle.record.specs.RoundTrip.{CountsFit}
-use Rattle.record.specs.WellMade.{checked}
+use Rattle.record.specs.WellMade.{checked, AllWellMade}
 use Rattle.record.proofs.Numerals.{two-joined, four-joined}
 use Rattle.record.proofs.Encoded.{encoded-is-decoded}
 use Rattle.feed.specs.declared.refusals.Refusal.the-variants.{ShortHeader, ThreadCount, AddressCount, RecordCount, BrokenLayout}
-use Rattle.feed.specs.Meaning.{CountsInRange, AllWellMade}
+use Rattle.feed.specs.Meaning.{CountsInRange}
 use Rattle.feed.specs.Delivery.{wellMadeOnes, endingAfter, delivering}
 use Rattle.trace_file.specs.declared.layout.Header.{Header}
 use Rattle.trace_file.specs.Layout.{traceLength, headerBytes, recordBytes, traceOf, headerOf, twelves}

@@ -3,12 +3,13 @@ use Prim.Native.Nat.{ℕ, _+_, _≤_}
 use mathlib.Core.Path.{_≡_}
 use mathlib.Core.List.{List, [], _∷_}
 use lib.ListN.{length, take, drop}
+use Rattle.record.specs.WellMade.{AllWellMade}
 use Rattle.std.specs.declared.result.Result.the-variants.{Ok}
 use Rattle.record.specs.declared.kinds.Counts.{Counts}
 use Rattle.record.specs.declared.kinds.Record.{Record}
 use Rattle.record.specs.Ending.{clean}
 use Rattle.record.specs.RoundTrip.{Storable, AllBytes}
-use Rattle.feed.specs.Meaning.{Meaning, CountsInRange, AllWellMade}
+use Rattle.feed.specs.Meaning.{Meaning, CountsInRange}
 use Rattle.trace_file.specs.Layout.{traceLength, traceOf, headerOf}
 use Rattle.trace_file.specs.Opening.{opened}
 use Rattle.trace_file.specs.Writing.{begins, begun, appends, appended}

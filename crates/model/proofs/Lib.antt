@@ -1,0 +1,12 @@
+pub mod Places
+pub mod Wider
+pub mod Merge
+pub mod ByPlaces
+pub mod Passing
+pub mod HoldBack
+pub mod Tells
+pub mod WellMade
+pub mod Renamed
+pub mod Rank
+pub mod Upto
+pub mod Table

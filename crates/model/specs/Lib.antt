@@ -1,0 +1,11 @@
+pub mod Lawful
+pub mod Events
+pub mod Places
+pub mod Laws
+pub mod Merge
+pub mod HoldBack
+pub mod Tells
+pub mod Renamed
+pub mod Rank
+pub mod Upto
+pub mod Table
