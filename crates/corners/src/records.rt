@@ -1,5 +1,10 @@
 //! Which bytes and which values are no well-made record, and why.
 
+ghost use mathlib.Core.Path.{_≡_};
+ghost use Rattle.std.specs.Results.{errPart};
+ghost use Rattle.std.specs.declared.option.Option.the-variants.{None};
+ghost use Rattle.record.specs.Reading.{decoded};
+ghost use Rattle.record.specs.WellMade.{threadOf};
 use record::Cause;
 use record::CauseDebug;
 use record::CausePartialEq;
@@ -24,7 +29,10 @@ const MOST: Counts = Counts {
     addresses: 64,
 };
 
-fn cause_of(bytes: [u8; 12]) -> Option<Cause> {
+/// The cause for which the bytes are no record of a trace of `FEW`.
+fn cause_of(bytes: [u8; 12]) -> Option<Cause>
+    ensures { λ r. ⌜ r ≡ errPart (decoded (record { threads = 2; addresses = 1 }) None bytes) ⌝ }
+{
     Record::decode(&bytes, FEW, None).err()
 }
 
@@ -98,7 +106,10 @@ fn a_log_has_one_thread() -> Result<(), Fail> {
     )
 }
 
-fn read_from(thread: u8, number: u16) -> Record {
+/// A read of the last address by the last thread, of this write.
+fn read_from(thread: u8, number: u16) -> Record
+    ensures { λ r. ⌜ threadOf r ≡ 7 ⌝ }
+{
     Record::Read(ReadRecord {
         thread: 7,
         address: 63,

@@ -1,5 +1,8 @@
 //! Which bytes open as a trace file, and what the writer leaves in a buffer.
 
+ghost use mathlib.Core.Path.{_≡_};
+ghost use Rattle.std.specs.Results.{errPart};
+ghost use Rattle.trace_file.specs.Opening.{opened};
 use feed::Feed;
 use feed::Refusal;
 use feed::RefusalDebug;
@@ -27,7 +30,10 @@ const MOST: Counts = Counts {
 
 const FENCE: Record = Record::Fence(FenceRecord { thread: 7 });
 
-fn refusal_of(bytes: &[u8]) -> Option<Refusal> {
+/// Why the bytes are no trace file.
+fn refusal_of(bytes: &[u8]) -> Option<Refusal>
+    ensures { λ r. ⌜ r ≡ errPart (opened (now (bytes .entry))) ⌝ }
+{
     TraceFile::open(bytes).err()
 }
 
