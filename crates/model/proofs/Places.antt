@@ -13,7 +13,7 @@ use Rattle.std.proofs.shelf.Tests.{cases-lt}
 use Rattle.std.specs.declared.option.Option.{Option}
 use Rattle.std.specs.declared.option.Option.the-variants.{Some, None}
 use Rattle.record.specs.declared.kinds.Record.{Record}
-use Rattle.model.specs.Places.{at, isAt, anyBelow, anyOf, oneFurther, placeOf, standsWhere}
+use Rattle.model.specs.Places.{atPlace, isAt, anyBelow, anyOf, oneFurther, placeOf, standsWhere}
 use Rattle.model.specs.Events.{isEvent, isStrict, isWrite, addressOf, isWriteTo, Edition, Each, IfThere, precedes, covered, overwritten, coveredTo}
 
 -- a place of the list is below n, where there is one; each place of the list is
@@ -46,12 +46,12 @@ pub all-inside-more : (n m : ℕ) (ks : List ℕ) → n ≤ m → AllInside n ks
 all-inside-more n m [] le h = tt
 all-inside-more n m (k ∷ ks) le h = (omega arith, all-inside-more n m ks le (h .1))
 
-pub at-grown : {A : Type 0} (d : A) (f : Record → A) (xs zs : List Record) (k : ℕ) → k < length xs → at d f (xs ++ zs) k ≡ at d f xs k
+pub at-grown : {A : Type 0} (d : A) (f : Record → A) (xs zs : List Record) (k : ℕ) → k < length xs → atPlace d f (xs ++ zs) k ≡ atPlace d f xs k
 at-grown d f [] zs k h = absurd (not-suc-le-zero h)
 at-grown d f (x ∷ xs) zs zero h = refl
 at-grown d f (x ∷ xs) zs (suc k) h = at-grown d f xs zs k (le-of-suc-le-suc h)
 
-pub at-past : {A : Type 0} (d : A) (f : Record → A) (xs : List Record) (k : ℕ) → length xs ≤ k → at d f xs k ≡ d
+pub at-past : {A : Type 0} (d : A) (f : Record → A) (xs : List Record) (k : ℕ) → length xs ≤ k → atPlace d f xs k ≡ d
 at-past d f [] k h = refl
 at-past d f (x ∷ xs) zero h = absurd (not-suc-le-zero h)
 at-past d f (x ∷ xs) (suc k) h = at-past d f xs k (le-of-suc-le-suc h)
@@ -130,4 +130,4 @@ module _ (E : Edition) (xs zs : List Record) where
 
     pub overwritten-grown : (w : ℕ) → w < length xs → overwritten E (xs ++ zs) seen w ≡ overwritten E xs seen w
     overwritten-grown w l =
-        ap (λ (n : ℕ). anyBelow n (λ v. covered E (xs ++ zs) seen v && precedes E (xs ++ zs) w v && eqb (at 0 addressOf (xs ++ zs) v) (at 0 addressOf (xs ++ zs) w))) (length-append xs zs) ∙ any-none (length xs) (length zs) (λ v. covered E (xs ++ zs) seen v && precedes E (xs ++ zs) w v && eqb (at 0 addressOf (xs ++ zs) v) (at 0 addressOf (xs ++ zs) w)) (λ v m. ap (λ (b : Bool). b && precedes E (xs ++ zs) w v && eqb (at 0 addressOf (xs ++ zs) v) (at 0 addressOf (xs ++ zs) w)) (covered-past v m)) ∙ any-same (length xs) _ _ (λ v m. λ i. covered-grown v i && precedes-grown w v m i && eqb (at-grown 0 addressOf xs zs v m i) (at-grown 0 addressOf xs zs w l i))
+        ap (λ (n : ℕ). anyBelow n (λ v. covered E (xs ++ zs) seen v && precedes E (xs ++ zs) w v && eqb (atPlace 0 addressOf (xs ++ zs) v) (atPlace 0 addressOf (xs ++ zs) w))) (length-append xs zs) ∙ any-none (length xs) (length zs) (λ v. covered E (xs ++ zs) seen v && precedes E (xs ++ zs) w v && eqb (atPlace 0 addressOf (xs ++ zs) v) (atPlace 0 addressOf (xs ++ zs) w)) (λ v m. ap (λ (b : Bool). b && precedes E (xs ++ zs) w v && eqb (atPlace 0 addressOf (xs ++ zs) v) (atPlace 0 addressOf (xs ++ zs) w)) (covered-past v m)) ∙ any-same (length xs) _ _ (λ v m. λ i. covered-grown v i && precedes-grown w v m i && eqb (at-grown 0 addressOf xs zs v m i) (at-grown 0 addressOf xs zs w l i))

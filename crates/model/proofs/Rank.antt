@@ -17,7 +17,7 @@ use Rattle.record.specs.declared.kinds.Source.the-variants.{Initial, Write as W
 use Rattle.record.specs.declared.kinds.Record.{Record}
 use Rattle.record.specs.declared.kinds.Record.the-variants.{Write, Read, Fence, Notify, Wait}
 use Rattle.record.specs.WellMade.{threadOf}
-use Rattle.model.specs.Places.{at, isAt, anyBelow, anyOf, howMany, placeOf}
+use Rattle.model.specs.Places.{atPlace, isAt, anyBelow, anyOf, howMany, placeOf}
 use Rattle.model.specs.Events.{isEvent, isStrict, isWrite, isNotify, isWait, isWriteTo, addressOf, kindOf, isAct, actsOf, Edition, Law, Each, IfThere, sourceIn, names, observed, precedes, covered, overwritten, coveredTo}
 use Rattle.model.specs.Rank.{bit, strictBefore, rank, topSeen, topCovered, Rank-rules}
 use Rattle.model.proofs.Places.{any-same}
@@ -179,7 +179,7 @@ write-to-is a (Fence f) = refl
 write-to-is a (Notify n) = refl
 write-to-is a (Wait w) = refl
 
-at-write-to : (a : ℕ) (xs : List Record) (k : ℕ) → isAt (isWriteTo a) xs k ≡ (isAt isWrite xs k && eqb (at 0 addressOf xs k) a)
+at-write-to : (a : ℕ) (xs : List Record) (k : ℕ) → isAt (isWriteTo a) xs k ≡ (isAt isWrite xs k && eqb (atPlace 0 addressOf xs k) a)
 at-write-to a [] k = refl
 at-write-to a (x ∷ xs) zero = write-to-is a x
 at-write-to a (x ∷ xs) (suc k) = at-write-to a xs k
@@ -215,16 +215,16 @@ module _ (E : Edition) (xs : List Record) (seen : List ℕ) where
   covered-write : (k : ℕ) → covered E xs seen k ≡ true → isAt isWrite xs k ≡ true
   covered-write k e = and-parts (isAt isWrite xs k) (anyOf seen (λ e. eqb k e || precedes E xs k e)) e .0
 
-  pub overwritten-by-rank : (w : ℕ) → isAt isWrite xs w ≡ true → overwritten E xs seen w ≡ ltb (suc (rank E xs w)) (topCovered E xs seen (at 0 addressOf xs w) (length xs))
-  overwritten-by-rank w e = any-same (length xs) _ _ (λ k l. one k (covered E xs seen k) refl) ∙ reached-covered (at 0 addressOf xs w) (suc (rank E xs w))
+  pub overwritten-by-rank : (w : ℕ) → isAt isWrite xs w ≡ true → overwritten E xs seen w ≡ ltb (suc (rank E xs w)) (topCovered E xs seen (atPlace 0 addressOf xs w) (length xs))
+  overwritten-by-rank w e = any-same (length xs) _ _ (λ k l. one k (covered E xs seen k) refl) ∙ reached-covered (atPlace 0 addressOf xs w) (suc (rank E xs w))
     where
-      one : (k : ℕ) (b : Bool) → covered E xs seen k ≡ b → (b && precedes E xs w k && eqb (at 0 addressOf xs k) (at 0 addressOf xs w)) ≡ (b && isAt (isWriteTo (at 0 addressOf xs w)) xs k && ltb (suc (rank E xs w)) (suc (rank E xs k)))
+      one : (k : ℕ) (b : Bool) → covered E xs seen k ≡ b → (b && precedes E xs w k && eqb (atPlace 0 addressOf xs k) (atPlace 0 addressOf xs w)) ≡ (b && isAt (isWriteTo (atPlace 0 addressOf xs w)) xs k && ltb (suc (rank E xs w)) (suc (rank E xs k)))
       one k false q = refl
       one k true q =
           let v = covered-write k q in
-          (λ i. rank-rule E xs w k (at-event isWrite (isEvent E) (write-event E) xs w e) (at-event isWrite (isEvent E) (write-event E) xs k v) i && eqb (at 0 addressOf xs k) (at 0 addressOf xs w))
-          ∙ and-turn true (ltb (rank E xs w) (rank E xs k)) (eqb (at 0 addressOf xs k) (at 0 addressOf xs w))
-          ∙ (λ i. sym (at-write-to (at 0 addressOf xs w) xs k ∙ ap (λ (b : Bool). b && eqb (at 0 addressOf xs k) (at 0 addressOf xs w)) v) i && sym (one-up (rank E xs w) (rank E xs k)) i)
+          (λ i. rank-rule E xs w k (at-event isWrite (isEvent E) (write-event E) xs w e) (at-event isWrite (isEvent E) (write-event E) xs k v) i && eqb (atPlace 0 addressOf xs k) (atPlace 0 addressOf xs w))
+          ∙ and-turn true (ltb (rank E xs w) (rank E xs k)) (eqb (atPlace 0 addressOf xs k) (atPlace 0 addressOf xs w))
+          ∙ (λ i. sym (at-write-to (atPlace 0 addressOf xs w) xs k ∙ ap (λ (b : Bool). b && eqb (atPlace 0 addressOf xs k) (atPlace 0 addressOf xs w)) v) i && sym (one-up (rank E xs w) (rank E xs k)) i)
 
   and-true : (b : Bool) → b ≡ (b && true)
   and-true true = refl

@@ -20,7 +20,7 @@ use Rattle.record.specs.declared.kinds.Record.{Record}
 use Rattle.record.specs.declared.kinds.Record.the-variants.{Write, Read, Fence, Notify, Wait}
 use Rattle.record.specs.WellMade.{threadOf}
 use Rattle.model.specs.declared.reasons.Reason.the-variants.{TooManyRecords, NotWrittenYet, OtherAddress, OtherValue, OwnLaterWrite, Overwritten, InitialGone, NotifyOutOfTurn, WaitOutOfTurn, NotifyMissing, OtherLabel}
-use Rattle.model.specs.Places.{at, isAt, anyBelow, anyOf, howMany, oneFurther, placeOf, missing, standsWhere, oldestFirst}
+use Rattle.model.specs.Places.{atPlace, isAt, anyBelow, anyOf, howMany, oneFurther, placeOf, missing, standsWhere, oldestFirst}
 use Rattle.model.specs.Events.{kindOf, isAct, isActKind, Edition, Law, isEvent, isStrict, isWrite, isNotify, isWait, isWriteTo, addressOf, valueOf, labelOf, recordsOf, countOf, actsOf, sourceIn, names, observed, precedes, covered, overwritten, coveredTo, writtenTo, writtenBehind}
 use Rattle.model.specs.Lawful.{Before, _when_, readReasons, kindReasons, reasonsOf, firstApplying, verdict, foundAs}
 use Rattle.model.specs.Renamed.{Renaming, sourceRenamed, renamed, Renaming-rule}
@@ -53,7 +53,7 @@ any-out (suc n) p e = go (any-out n p) (p n) refl e
 -- Lists under a map that leaves what is asked of a record as it was ------------------------------------------------
 
 module _ (ρ : Record → Record) where
-  at-map : {A : Type 0} (d : A) (f : Record → A) (xs : List Record) (k : ℕ) → ((x : Record) → f (ρ x) ≡ f x) → at d f (map ρ xs) k ≡ at d f xs k
+  at-map : {A : Type 0} (d : A) (f : Record → A) (xs : List Record) (k : ℕ) → ((x : Record) → f (ρ x) ≡ f x) → atPlace d f (map ρ xs) k ≡ atPlace d f xs k
   at-map d f [] k h = refl
   at-map d f (x ∷ xs) zero h = h x
   at-map d f (x ∷ xs) (suc k) h = at-map d f xs k h
@@ -180,7 +180,7 @@ module _ (c : Counts) (τ τ′ α α′ : ℕ → ℕ) (Rτ : Renaming (c .thre
   address-ρ (Wait w) h e = absurd (false≢true e)
 
   -- the address of a write
-  at-address : (xs : List Record) → AllFit c xs → (k : ℕ) → isAt isWrite xs k ≡ true → (at 0 addressOf (map ρ xs) k ≡ α (at 0 addressOf xs k)) × (at 0 addressOf xs k < c .addresses)
+  at-address : (xs : List Record) → AllFit c xs → (k : ℕ) → isAt isWrite xs k ≡ true → (atPlace 0 addressOf (map ρ xs) k ≡ α (atPlace 0 addressOf xs k)) × (atPlace 0 addressOf xs k < c .addresses)
   at-address [] h k e = absurd (false≢true e)
   at-address (x ∷ xs) h zero e = address-ρ x (h .0) e
   at-address (x ∷ xs) h (suc k) e = at-address xs (h .1) k e
@@ -194,14 +194,14 @@ module _ (c : Counts) (τ τ′ α α′ : ℕ → ℕ) (Rτ : Renaming (c .thre
 
   overwritten-ρ : (E : Edition) (xs : List Record) → AllFit c xs → (seen : List ℕ) (w : ℕ) → isAt isWrite xs w ≡ true → overwritten E (map ρ xs) seen w ≡ overwritten E xs seen w
   overwritten-ρ E xs h seen w e =
-      ap (λ (n : ℕ). anyBelow n (λ v. covered E (map ρ xs) seen v && precedes E (map ρ xs) w v && eqb (at 0 addressOf (map ρ xs) v) (at 0 addressOf (map ρ xs) w))) (length-map xs ρ) ∙ any-same (length xs) _ _ (λ v l. (λ i. covered-ρ E xs seen v i && precedes-ρ E xs w v i && eqb (at 0 addressOf (map ρ xs) v) (at 0 addressOf (map ρ xs) w)) ∙ last v (isAt isWrite xs v) refl)
+      ap (λ (n : ℕ). anyBelow n (λ v. covered E (map ρ xs) seen v && precedes E (map ρ xs) w v && eqb (atPlace 0 addressOf (map ρ xs) v) (atPlace 0 addressOf (map ρ xs) w))) (length-map xs ρ) ∙ any-same (length xs) _ _ (λ v l. (λ i. covered-ρ E xs seen v i && precedes-ρ E xs w v i && eqb (atPlace 0 addressOf (map ρ xs) v) (atPlace 0 addressOf (map ρ xs) w)) ∙ last v (isAt isWrite xs v) refl)
     where
-      last : (v : ℕ) (b : Bool) → isAt isWrite xs v ≡ b → (b && anyOf seen (λ e. eqb v e || precedes E xs v e) && precedes E xs w v && eqb (at 0 addressOf (map ρ xs) v) (at 0 addressOf (map ρ xs) w)) ≡ (b && anyOf seen (λ e. eqb v e || precedes E xs v e) && precedes E xs w v && eqb (at 0 addressOf xs v) (at 0 addressOf xs w))
+      last : (v : ℕ) (b : Bool) → isAt isWrite xs v ≡ b → (b && anyOf seen (λ e. eqb v e || precedes E xs v e) && precedes E xs w v && eqb (atPlace 0 addressOf (map ρ xs) v) (atPlace 0 addressOf (map ρ xs) w)) ≡ (b && anyOf seen (λ e. eqb v e || precedes E xs v e) && precedes E xs w v && eqb (atPlace 0 addressOf xs v) (atPlace 0 addressOf xs w))
       last v false q = refl
       last v true q =
           let a = at-address xs h v q in
           let d = at-address xs h w e in
-          ap (λ (b : Bool). anyOf seen (λ e. eqb v e || precedes E xs v e) && precedes E xs w v && b) ((λ i. eqb (a .0 i) (d .0 i)) ∙ eqb-there (c .addresses) α α′ Rα (at 0 addressOf xs v) (at 0 addressOf xs w) (a .1) (d .1))
+          ap (λ (b : Bool). anyOf seen (λ e. eqb v e || precedes E xs v e) && precedes E xs w v && b) ((λ i. eqb (a .0 i) (d .0 i)) ∙ eqb-there (c .addresses) α α′ Rα (atPlace 0 addressOf xs v) (atPlace 0 addressOf xs w) (a .1) (d .1))
 
   pub fit-append : (xs ys : List Record) → AllFit c xs → AllFit c ys → AllFit c (xs ++ ys)
   fit-append [] ys h k = k
@@ -281,12 +281,12 @@ module _ (c : Counts) (τ τ′ α α′ : ℕ → ℕ) (Rτ : Renaming (c .thre
       other u l = ap not (eqb-there (c .threads) τ τ′ Rτ u t l lt)
 
       module _ (a : ℕ) (la : a < c .addresses) (u : ℕ) (lu : u < c .threads) (writes : IsAt isWrite (actsOf u h) (old u)) where
-        other-address : standsWhere (new (τ u)) (λ w. not (eqb (at 0 addressOf (actsOf (τ u) (map ρ h)) w) (α a))) ≡ standsWhere (old u) (λ w. not (eqb (at 0 addressOf (actsOf u h) w) a))
+        other-address : standsWhere (new (τ u)) (λ w. not (eqb (atPlace 0 addressOf (actsOf (τ u) (map ρ h)) w) (α a))) ≡ standsWhere (old u) (λ w. not (eqb (atPlace 0 addressOf (actsOf u h) w) a))
         other-address =
-            (λ i. standsWhere (nameds u lu i) (λ w. not (eqb (at 0 addressOf (recs u lu i) w) (α a)))) ∙ stands-where-at isWrite (actsOf u h) (old u) _ _ writes (λ k q. let d = at-address (actsOf u h) (acts-fits u h all) k q in ap not (ap (λ (b : ℕ). eqb b (α a)) (d .0) ∙ eqb-there (c .addresses) α α′ Rα (at 0 addressOf (actsOf u h) k) a (d .1) la))
+            (λ i. standsWhere (nameds u lu i) (λ w. not (eqb (atPlace 0 addressOf (recs u lu i) w) (α a)))) ∙ stands-where-at isWrite (actsOf u h) (old u) _ _ writes (λ k q. let d = at-address (actsOf u h) (acts-fits u h all) k q in ap not (ap (λ (b : ℕ). eqb b (α a)) (d .0) ∙ eqb-there (c .addresses) α α′ Rα (atPlace 0 addressOf (actsOf u h) k) a (d .1) la))
 
-        other-value : (v : ℕ) → standsWhere (new (τ u)) (λ w. not (eqb (at 0 valueOf (actsOf (τ u) (map ρ h)) w) v)) ≡ standsWhere (old u) (λ w. not (eqb (at 0 valueOf (actsOf u h) w) v))
-        other-value v = (λ i. standsWhere (nameds u lu i) (λ w. not (eqb (at 0 valueOf (recs u lu i) w) v))) ∙ (λ i. standsWhere (old u) (λ w. not (eqb (at-map ρ 0 valueOf (actsOf u h) w value-ρ i) v)))
+        other-value : (v : ℕ) → standsWhere (new (τ u)) (λ w. not (eqb (atPlace 0 valueOf (actsOf (τ u) (map ρ h)) w) v)) ≡ standsWhere (old u) (λ w. not (eqb (atPlace 0 valueOf (actsOf u h) w) v))
+        other-value v = (λ i. standsWhere (nameds u lu i) (λ w. not (eqb (atPlace 0 valueOf (recs u lu i) w) v))) ∙ (λ i. standsWhere (old u) (λ w. not (eqb (at-map ρ 0 valueOf (actsOf u h) w value-ρ i) v)))
 
         own-later : (eqb (τ u) (τ t) && standsWhere (new (τ u)) (λ w. writtenBehind (actsOf (τ u) (map ρ h)) w (α a))) ≡ (eqb u t && standsWhere (old u) (λ w. writtenBehind (actsOf u h) w a))
         own-later =
@@ -309,9 +309,9 @@ module _ (c : Counts) (τ τ′ α α′ : ℕ → ℕ) (Rτ : Renaming (c .thre
       absent-notify : anyBelow (c .threads) (λ u. not (eqb u (τ t)) && missing (new u)) ≡ anyBelow (c .threads) (λ u. not (eqb u t) && missing (old u))
       absent-notify = any-there (c .threads) τ τ′ Rτ _ _ (λ u lu. λ i. other u lu i && missing (nameds u lu i))
 
-      other-label : (l : ℕ) → anyBelow (c .threads) (λ u. standsWhere (new u) (λ k. not (eqb (at 0 labelOf (actsOf u (map ρ h)) k) l))) ≡ anyBelow (c .threads) (λ u. standsWhere (old u) (λ k. not (eqb (at 0 labelOf (actsOf u h) k) l)))
+      other-label : (l : ℕ) → anyBelow (c .threads) (λ u. standsWhere (new u) (λ k. not (eqb (atPlace 0 labelOf (actsOf u (map ρ h)) k) l))) ≡ anyBelow (c .threads) (λ u. standsWhere (old u) (λ k. not (eqb (atPlace 0 labelOf (actsOf u h) k) l)))
       other-label l =
-          any-there (c .threads) τ τ′ Rτ _ _ (λ u lu. (λ i. standsWhere (nameds u lu i) (λ k. not (eqb (at 0 labelOf (recs u lu i) k) l))) ∙ (λ i. standsWhere (old u) (λ k. not (eqb (at-map ρ 0 labelOf (actsOf u h) k label-ρ i) l))))
+          any-there (c .threads) τ τ′ Rτ _ _ (λ u lu. (λ i. standsWhere (nameds u lu i) (λ k. not (eqb (atPlace 0 labelOf (recs u lu i) k) l))) ∙ (λ i. standsWhere (old u) (λ k. not (eqb (at-map ρ 0 labelOf (actsOf u h) k label-ρ i) l))))
 
     module _ (index : ℕ) (new old : ℕ → Option ℕ) (nameds : (u : ℕ) → u < c .threads → new (τ u) ≡ old u) where
       read-reasons : (r : ReadRecord) (s : Source) → r .thread < c .threads → r .address < c .addresses → SourceFits c s → ((u : ℕ) → IsAt isWrite (actsOf u h) (old u)) → readReasons (L .edition) (c .threads) (earlier-ρ (r .thread) index new) (record { thread = τ (r .thread); address = α (r .address); source = sourceRenamed τ (r .source); mode = r .mode; value = r .value }) (sourceRenamed τ s) ≡ readReasons (L .edition) (c .threads) (earlier (r .thread) index old) r s

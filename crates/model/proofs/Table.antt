@@ -1,6 +1,6 @@
 -- Each row of the table, by computation.
 use mathlib.Core.Path.{refl}
-use Rattle.model.specs.Table.{Worked, Room, Ordering, Observing, Reasons, Behind, Endings, Holding, Table}
+use Rattle.model.specs.Table.{Worked, Room, Precedence, Observing, Reasons, Behind, Endings, Holding, Table}
 
 worked : Worked
 worked = record {
@@ -26,7 +26,7 @@ room = record {
   tested-first = refl;
 }
 
-ordering : Ordering
+ordering : Precedence
 ordering = record {
   strict-before-both-orders-nothing = refl;
   strict-behind-both-orders-nothing = refl;

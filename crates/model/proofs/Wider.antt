@@ -14,7 +14,7 @@ use Rattle.record.specs.declared.kinds.Record.{Record}
 use Rattle.record.specs.declared.kinds.Record.the-variants.{Write, Read, Fence, Notify, Wait}
 use Rattle.record.specs.WellMade.{threadOf}
 use Rattle.model.specs.declared.reasons.Reason.the-variants.{TooManyRecords, NotWrittenYet, OtherAddress, OtherValue, OwnLaterWrite, Overwritten, InitialGone, NotifyOutOfTurn, WaitOutOfTurn, NotifyMissing, OtherLabel}
-use Rattle.model.specs.Places.{at, anyBelow, howMany, missing, standsWhere}
+use Rattle.model.specs.Places.{atPlace, anyBelow, howMany, missing, standsWhere}
 use Rattle.model.specs.Events.{addressOf, valueOf, labelOf, isNotify, isWait, Edition, overwritten, coveredTo, writtenTo, writtenBehind}
 use Rattle.model.specs.Lawful.{Before, Test, _when_, readReasons, kindReasons, reasonsOf}
 use Rattle.model.proofs.Places.{Inside, AllInside, at-grown, any-same, stands-where-same, overwritten-grown, covered-to-grown}
@@ -31,9 +31,9 @@ module _ (E : Edition) (T : ℕ) (index : ℕ) (R S : ℕ → List Record) (rest
   abbrev more : Before
   more = record { index = index; acts = S; seen = seen; named = named }
 
-  at-named : (f : Record → ℕ) (u : ℕ) (p : ℕ → Bool) → standsWhere (named u) (λ k. p (at 0 f (S u) k)) ≡ standsWhere (named u) (λ k. p (at 0 f (R u) k))
+  at-named : (f : Record → ℕ) (u : ℕ) (p : ℕ → Bool) → standsWhere (named u) (λ k. p (atPlace 0 f (S u) k)) ≡ standsWhere (named u) (λ k. p (atPlace 0 f (R u) k))
   at-named f u p =
-      stands-where-same (length (R u)) (named u) (λ k. p (at 0 f (S u) k)) (λ k. p (at 0 f (R u) k)) (there u) (λ k l. ap p (ap (λ (xs : List Record). at 0 f xs k) (grown u) ∙ at-grown 0 f (R u) (rest u) k l))
+      stands-where-same (length (R u)) (named u) (λ k. p (atPlace 0 f (S u) k)) (λ k. p (atPlace 0 f (R u) k)) (there u) (λ k l. ap p (ap (λ (xs : List Record). atPlace 0 f xs k) (grown u) ∙ at-grown 0 f (R u) (rest u) k l))
 
   own-later : (t a u : ℕ) → S t ≡ R t → (eqb u t && standsWhere (named u) (λ w. writtenBehind (S u) w a)) ≡ (eqb u t && standsWhere (named u) (λ w. writtenBehind (R u) w a))
   own-later t a u own = if-same (eqb u t) _ _ (λ e. ap (λ (xs : List Record). standsWhere (named u) (λ w. writtenBehind xs w a)) (ap S (eqb-true u t e) ∙ own ∙ ap R (sym (eqb-true u t e))))
@@ -65,7 +65,7 @@ module _ (E : Edition) (T : ℕ) (index : ℕ) (R S : ℕ → List Record) (rest
   kind-same (Wait w) own =
       λ i. (WaitOutOfTurn when not (eqb (howMany isNotify (own i)) (suc (howMany isWait (own i)))))
       ∷ (NotifyMissing when anyBelow T (λ u. not (eqb u (w .thread)) && missing (named u)))
-      ∷ (OtherLabel when any-same T (λ u. standsWhere (named u) (λ k. not (eqb (at 0 labelOf (S u) k) (w .label)))) (λ u. standsWhere (named u) (λ k. not (eqb (at 0 labelOf (R u) k) (w .label)))) (λ u l. at-named labelOf u (λ k. not (eqb k (w .label)))) i)
+      ∷ (OtherLabel when any-same T (λ u. standsWhere (named u) (λ k. not (eqb (atPlace 0 labelOf (S u) k) (w .label)))) (λ u. standsWhere (named u) (λ k. not (eqb (atPlace 0 labelOf (R u) k) (w .label)))) (λ u l. at-named labelOf u (λ k. not (eqb k (w .label)))) i)
       ∷ []
 
   pub reasons-wider : (x : Record) → S (threadOf x) ≡ R (threadOf x) → reasonsOf E T more x ≡ reasonsOf E T less x

@@ -15,7 +15,7 @@ use Rattle.record.specs.declared.kinds.Source.the-variants.{Initial, Write as W
 use Rattle.record.specs.declared.kinds.Record.{Record}
 use Rattle.record.specs.declared.kinds.Record.the-variants.{Write, Read, Fence, Notify, Wait}
 use Rattle.record.specs.WellMade.{threadOf}
-use Rattle.model.specs.Places.{at, isAt, anyBelow, anyOf, howMany, placeOf, oldestFirst}
+use Rattle.model.specs.Places.{atPlace, isAt, anyBelow, anyOf, howMany, placeOf, oldestFirst}
 
 -- Records -----------------------------------------------------------------------------------------------------------
 
@@ -190,7 +190,7 @@ covered E xs seen w = isAt isWrite xs w && anyOf seen (λ e. eqb w e || precedes
 
 -- a write is overwritten when it precedes a covered write to the same address
 abbrev pub overwritten : Edition → List Record → List ℕ → ℕ → Bool
-overwritten E xs seen w = anyBelow (length xs) (λ v. covered E xs seen v && precedes E xs w v && eqb (at 0 addressOf xs v) (at 0 addressOf xs w))
+overwritten E xs seen w = anyBelow (length xs) (λ v. covered E xs seen v && precedes E xs w v && eqb (atPlace 0 addressOf xs v) (atPlace 0 addressOf xs w))
 
 -- some write to the address a is covered
 abbrev pub coveredTo : Edition → List Record → List ℕ → ℕ → Bool

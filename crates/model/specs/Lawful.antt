@@ -16,7 +16,7 @@ use Rattle.model.specs.declared.reasons.Reason.{Reason}
 use Rattle.model.specs.declared.reasons.Reason.the-variants.{TooManyRecords, NotWrittenYet, OtherAddress, OtherValue, OwnLaterWrite, Overwritten, InitialGone, NotifyOutOfTurn, WaitOutOfTurn, NotifyMissing, OtherLabel}
 use Rattle.model.specs.declared.outcomes.Outcome.{Outcome}
 use Rattle.model.specs.declared.outcomes.Outcome.the-variants.{Compliant, Unlawful, Damaged}
-use Rattle.model.specs.Places.{at, anyBelow, howMany, missing, standsWhere}
+use Rattle.model.specs.Places.{atPlace, anyBelow, howMany, missing, standsWhere}
 use Rattle.model.specs.Events.{addressOf, valueOf, labelOf, isNotify, isWait, isOf, countOf, actsOf, names, Edition, Law, observed, overwritten, coveredTo, writtenTo, writtenBehind}
 
 -- What stands earlier than a record, as far as its verdict goes.
@@ -42,8 +42,8 @@ pub data Test : Type 0 where
 abbrev pub readReasons : Edition → ℕ → Before → ReadRecord → Source → List Test
 readReasons E T b r (WriteOf u n) =
     (NotWrittenYet when missing (b .named u))
-    ∷ (OtherAddress when standsWhere (b .named u) (λ w. not (eqb (at 0 addressOf (b .acts u) w) (r .address))))
-    ∷ (OtherValue when standsWhere (b .named u) (λ w. not (eqb (at 0 valueOf (b .acts u) w) (r .value))))
+    ∷ (OtherAddress when standsWhere (b .named u) (λ w. not (eqb (atPlace 0 addressOf (b .acts u) w) (r .address))))
+    ∷ (OtherValue when standsWhere (b .named u) (λ w. not (eqb (atPlace 0 valueOf (b .acts u) w) (r .value))))
     ∷ (OwnLaterWrite when eqb u (r .thread) && standsWhere (b .named u) (λ w. writtenBehind (b .acts u) w (r .address)))
     ∷ (Overwritten when not (eqb u (r .thread)) && standsWhere (b .named u) (λ w. overwritten E (b .acts u) (b .seen u) w))
     ∷ []
@@ -62,7 +62,7 @@ kindReasons E T b (Notify n) =
 kindReasons E T b (Wait w) =
     (WaitOutOfTurn when not (eqb (howMany isNotify (b .acts (w .thread))) (suc (howMany isWait (b .acts (w .thread))))))
     ∷ (NotifyMissing when anyBelow T (λ u. not (eqb u (w .thread)) && missing (b .named u)))
-    ∷ (OtherLabel when anyBelow T (λ u. standsWhere (b .named u) (λ k. not (eqb (at 0 labelOf (b .acts u) k) (w .label)))))
+    ∷ (OtherLabel when anyBelow T (λ u. standsWhere (b .named u) (λ k. not (eqb (atPlace 0 labelOf (b .acts u) k) (w .label)))))
     ∷ []
 
 -- and before all of them, that its thread has no room left

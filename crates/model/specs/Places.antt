@@ -8,14 +8,14 @@ use Rattle.std.specs.declared.option.Option.the-variants.{Some, None}
 use Rattle.record.specs.declared.kinds.Record.{Record}
 
 -- f of the record at place k of the list, counted from 0, and d where there is none
-abbrev pub at : {A : Type 0} → A → (Record → A) → List Record → ℕ → A
-at d f [] k = d
-at d f (x ∷ xs) zero = f x
-at d f (x ∷ xs) (suc k) = at d f xs k
+abbrev pub atPlace : {A : Type 0} → A → (Record → A) → List Record → ℕ → A
+atPlace d f [] k = d
+atPlace d f (x ∷ xs) zero = f x
+atPlace d f (x ∷ xs) (suc k) = atPlace d f xs k
 
 -- there is a record at place k, and it is such
 abbrev pub isAt : (Record → Bool) → List Record → ℕ → Bool
-isAt p xs k = at false p xs k
+isAt p xs k = atPlace false p xs k
 
 -- some number below n is such
 abbrev pub anyBelow : ℕ → (ℕ → Bool) → Bool

@@ -7,7 +7,7 @@ use Prim.Native.Nat.{ℕ, zero, suc, _+_, _*_, _≤_, max}
 use lib.Dec.{ltb, eqb}
 use lib.ListN.{length}
 use Rattle.record.specs.declared.kinds.Record.{Record}
-use Rattle.model.specs.Places.{at, isAt, anyOf}
+use Rattle.model.specs.Places.{atPlace, isAt, anyOf}
 use Rattle.model.specs.Events.{isEvent, isStrict, isWrite, isWriteTo, addressOf, actsOf, Edition, Law, observed, precedes, covered, overwritten, coveredTo}
 
 abbrev pub bit : Bool → ℕ
@@ -41,6 +41,6 @@ pub record Rank-rules : Type 0 where
   -- a write of u is covered for r exactly if it is observed itself, or its rank is below the largest observed
   pub covered-by-rank : (L : Law) (r u : ℕ) (h : List Record) (w : ℕ) → covered (L .edition) (actsOf u h) (observed L r u h) w ≡ (isAt isWrite (actsOf u h) w && (anyOf (observed L r u h) (eqb w) || ltb (rank (L .edition) (actsOf u h) w) (topSeen (L .edition) (actsOf u h) (observed L r u h))))
   -- a write is overwritten exactly if its rank is below that of some covered write to its address
-  pub overwritten-by-rank : (E : Edition) (xs : List Record) (seen : List ℕ) (w : ℕ) → isAt isWrite xs w ≡ true → overwritten E xs seen w ≡ ltb (suc (rank E xs w)) (topCovered E xs seen (at 0 addressOf xs w) (length xs))
+  pub overwritten-by-rank : (E : Edition) (xs : List Record) (seen : List ℕ) (w : ℕ) → isAt isWrite xs w ≡ true → overwritten E xs seen w ≡ ltb (suc (rank E xs w)) (topCovered E xs seen (atPlace 0 addressOf xs w) (length xs))
   -- the initial value of a is gone, as far as this thread's writes go, exactly if there is such a number
   pub initial-gone-by-rank : (E : Edition) (xs : List Record) (seen : List ℕ) (a : ℕ) → coveredTo E xs seen a ≡ ltb 0 (topCovered E xs seen a (length xs))

@@ -99,7 +99,7 @@ pub record Room : Type 0 where
   pub tested-first : Gives 2 (replicate 512 (fence 0) ++ (readOf 0 p 1 1 ∷ [])) (Unlawful 0 512 TooManyRecords)
 
 -- Which events precede which.
-pub record Ordering : Type 0 where
+pub record Precedence : Type 0 where
   pub strict-before-both-orders-nothing : Gives 2 (fence 0 ∷ write 0 p 1 ∷ write 0 p 2 ∷ readOf 1 p 0 2 ∷ readOf 1 p 0 1 ∷ []) Compliant
   pub strict-behind-both-orders-nothing : Gives 2 (write 0 p 1 ∷ write 0 p 2 ∷ fence 0 ∷ readOf 1 p 0 2 ∷ readOf 1 p 0 1 ∷ []) Compliant
   pub strict-older-write-orders : Gives 2 (strictWrite 0 p 1 ∷ write 0 p 2 ∷ readOf 1 p 0 2 ∷ readOf 1 p 0 1 ∷ []) (Unlawful 1 1 Overwritten)
@@ -187,7 +187,7 @@ pub record Holding : Type 0 where
 pub record Table : Type 0 where
   pub worked : Worked
   pub room : Room
-  pub ordering : Ordering
+  pub ordering : Precedence
   pub observing : Observing
   pub reasons : Reasons
   pub behind : Behind
