@@ -1,4 +1,4 @@
--- A pile: a feed, its bottom, with any number of relays above it.
+-- A pile: a feed, its bottom, with any number of relays above it. A relay is a feed made of another feed, whose records it passes on.
 use mathlib.Core.Path.{_≡_}
 use Rattle.record.specs.Ending.{Ending, clean, damaged}
 use Rattle.feed.specs.Meaning.{Meaning, WellMade}
