@@ -20,6 +20,10 @@ pub enum Refusal {
     RecordCount,
     /// Offsets or lengths break the layout.
     BrokenLayout,
+    /// The judge has told an outcome already.
+    AlreadySettled,
+    /// There is no such thread, or no such write was taken.
+    NoSuchWrite,
     /// Fewer than twelve bytes are free for one more record.
     NoRoom,
     /// The record is not well made, for this cause.
@@ -37,6 +41,8 @@ impl Refusal {
             Refusal::AddressCount => 3,
             Refusal::RecordCount => 4,
             Refusal::BrokenLayout => 5,
+            Refusal::AlreadySettled => 9,
+            Refusal::NoSuchWrite => 10,
             Refusal::NoRoom => 11,
             Refusal::NotWellMade(_) => 12,
         }

@@ -22,3 +22,9 @@ returns-in-NoRoom c = sym (ap refusalText (c .in-NoRoom .is))
 
 pub returns-in-NotWellMade : need.returns-in-NotWellMade
 returns-in-NotWellMade c = sym (ap refusalText (c .in-NotWellMade .is))
+
+pub returns-in-AlreadySettled : need.returns-in-AlreadySettled
+returns-in-AlreadySettled c = sym (ap refusalText (c .in-AlreadySettled .is))
+
+pub returns-in-NoSuchWrite : need.returns-in-NoSuchWrite
+returns-in-NoSuchWrite c = sym (ap refusalText (c .in-NoSuchWrite .is))

@@ -1,0 +1,4 @@
+pub mod Settling
+pub mod Drawing
+pub mod Running
+pub mod Few
