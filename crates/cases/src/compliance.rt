@@ -15,24 +15,43 @@ use crate::records::write;
 use model::Reason;
 use std::io;
 
-/// Local reads, and writes ordered by being strict.
-pub fn own_and_strict(rt: &LibcRuntime) -> io::Result<bool> {
+/// Judges every compliance test, and returns whether all are right.
+pub fn every_test(rt: &LibcRuntime) -> io::Result<bool> {
     let mut all = true;
-    all &= case(
+    all &= own_read(rt)?;
+    all &= strict_then_relaxed(rt)?;
+    all &= relaxed_then_strict(rt)?;
+    all &= two_strict(rt)?;
+    all &= strict_write_between(rt)?;
+    all &= strict_read_between(rt)?;
+    all &= fence_between(rt)?;
+    all &= notify_between(rt)?;
+    all &= before_a_barrier(rt)?;
+    Ok(all)
+}
+
+/// A local read returns the newest own write.
+fn own_read(rt: &LibcRuntime) -> io::Result<bool> {
+    let forbidden = case(
         rt,
         "an own read returns the newest own write, the forbidden value",
         unlawful(0, 2, Reason::OwnLaterWrite),
         1,
         &[write(0, X, 1), write(0, X, 2), read(0, X, 0, 1)],
     )?;
-    all &= case(
+    let permitted = case(
         rt,
         "an own read returns the newest own write, a permitted value",
         compliant(3),
         1,
         &[write(0, X, 1), write(0, X, 2), read(0, X, 0, 2)],
     )?;
-    all &= case(
+    Ok(forbidden && permitted)
+}
+
+/// A strict write, then a relaxed one.
+fn strict_then_relaxed(rt: &LibcRuntime) -> io::Result<bool> {
+    let forbidden = case(
         rt,
         "a strict write, then a relaxed one, the forbidden value",
         unlawful(1, 1, Reason::Overwritten),
@@ -44,7 +63,7 @@ pub fn own_and_strict(rt: &LibcRuntime) -> io::Result<bool> {
             read(1, X, 0, 1),
         ],
     )?;
-    all &= case(
+    let permitted = case(
         rt,
         "a strict write, then a relaxed one, a permitted value",
         compliant(4),
@@ -56,7 +75,12 @@ pub fn own_and_strict(rt: &LibcRuntime) -> io::Result<bool> {
             read(1, X, 0, 2),
         ],
     )?;
-    all &= case(
+    Ok(forbidden && permitted)
+}
+
+/// A relaxed write, then a strict one.
+fn relaxed_then_strict(rt: &LibcRuntime) -> io::Result<bool> {
+    let forbidden = case(
         rt,
         "a relaxed write, then a strict one, the forbidden value",
         unlawful(1, 1, Reason::Overwritten),
@@ -68,7 +92,7 @@ pub fn own_and_strict(rt: &LibcRuntime) -> io::Result<bool> {
             read(1, X, 0, 1),
         ],
     )?;
-    all &= case(
+    let permitted = case(
         rt,
         "a relaxed write, then a strict one, a permitted value",
         compliant(4),
@@ -80,7 +104,12 @@ pub fn own_and_strict(rt: &LibcRuntime) -> io::Result<bool> {
             read(1, X, 0, 2),
         ],
     )?;
-    all &= case(
+    Ok(forbidden && permitted)
+}
+
+/// Two strict writes.
+fn two_strict(rt: &LibcRuntime) -> io::Result<bool> {
+    let forbidden = case(
         rt,
         "two strict writes, the forbidden value",
         unlawful(1, 1, Reason::Overwritten),
@@ -92,7 +121,7 @@ pub fn own_and_strict(rt: &LibcRuntime) -> io::Result<bool> {
             read(1, X, 0, 1),
         ],
     )?;
-    all &= case(
+    let permitted = case(
         rt,
         "two strict writes, a permitted value",
         compliant(4),
@@ -104,13 +133,12 @@ pub fn own_and_strict(rt: &LibcRuntime) -> io::Result<bool> {
             read(1, X, 0, 2),
         ],
     )?;
-    Ok(all)
+    Ok(forbidden && permitted)
 }
 
-/// Writes ordered by what stands between them.
-pub fn ordered_between(rt: &LibcRuntime) -> io::Result<bool> {
-    let mut all = true;
-    all &= case(
+/// A strict write between two relaxed ones.
+fn strict_write_between(rt: &LibcRuntime) -> io::Result<bool> {
+    let forbidden = case(
         rt,
         "a strict write between two relaxed ones, the forbidden value",
         unlawful(1, 1, Reason::Overwritten),
@@ -123,7 +151,7 @@ pub fn ordered_between(rt: &LibcRuntime) -> io::Result<bool> {
             read(1, X, 0, 1),
         ],
     )?;
-    all &= case(
+    let permitted = case(
         rt,
         "a strict write between two relaxed ones, a permitted value",
         compliant(5),
@@ -136,7 +164,12 @@ pub fn ordered_between(rt: &LibcRuntime) -> io::Result<bool> {
             read(1, X, 0, 3),
         ],
     )?;
-    all &= case(
+    Ok(forbidden && permitted)
+}
+
+/// A strict read between two relaxed writes.
+fn strict_read_between(rt: &LibcRuntime) -> io::Result<bool> {
+    let forbidden = case(
         rt,
         "a strict read between two relaxed writes, the forbidden value",
         unlawful(1, 1, Reason::Overwritten),
@@ -149,7 +182,7 @@ pub fn ordered_between(rt: &LibcRuntime) -> io::Result<bool> {
             read(1, X, 0, 1),
         ],
     )?;
-    all &= case(
+    let permitted = case(
         rt,
         "a strict read between two relaxed writes, a permitted value",
         compliant(5),
@@ -162,7 +195,12 @@ pub fn ordered_between(rt: &LibcRuntime) -> io::Result<bool> {
             read(1, X, 0, 2),
         ],
     )?;
-    all &= case(
+    Ok(forbidden && permitted)
+}
+
+/// A fence between two relaxed writes.
+fn fence_between(rt: &LibcRuntime) -> io::Result<bool> {
+    let forbidden = case(
         rt,
         "a fence between two relaxed writes, the forbidden value",
         unlawful(1, 1, Reason::Overwritten),
@@ -175,7 +213,7 @@ pub fn ordered_between(rt: &LibcRuntime) -> io::Result<bool> {
             read(1, X, 0, 1),
         ],
     )?;
-    all &= case(
+    let permitted = case(
         rt,
         "a fence between two relaxed writes, a permitted value",
         compliant(5),
@@ -188,7 +226,12 @@ pub fn ordered_between(rt: &LibcRuntime) -> io::Result<bool> {
             read(1, X, 0, 2),
         ],
     )?;
-    all &= case(
+    Ok(forbidden && permitted)
+}
+
+/// A notify between two relaxed writes.
+fn notify_between(rt: &LibcRuntime) -> io::Result<bool> {
+    let forbidden = case(
         rt,
         "a notify between two relaxed writes, the forbidden value",
         unlawful(1, 1, Reason::Overwritten),
@@ -201,7 +244,7 @@ pub fn ordered_between(rt: &LibcRuntime) -> io::Result<bool> {
             read(1, X, 0, 1),
         ],
     )?;
-    all &= case(
+    let permitted = case(
         rt,
         "a notify between two relaxed writes, a permitted value",
         compliant(5),
@@ -214,13 +257,12 @@ pub fn ordered_between(rt: &LibcRuntime) -> io::Result<bool> {
             read(1, X, 0, 2),
         ],
     )?;
-    Ok(all)
+    Ok(forbidden && permitted)
 }
 
-/// Writes ordered by a barrier.
-pub fn over_a_barrier(rt: &LibcRuntime) -> io::Result<bool> {
-    let mut all = true;
-    all &= case(
+/// A relaxed and a strict write before a barrier.
+fn before_a_barrier(rt: &LibcRuntime) -> io::Result<bool> {
+    let forbidden = case(
         rt,
         "a relaxed and a strict write before a barrier, the forbidden value",
         unlawful(1, 2, Reason::Overwritten),
@@ -235,7 +277,7 @@ pub fn over_a_barrier(rt: &LibcRuntime) -> io::Result<bool> {
             read(1, X, 0, 1),
         ],
     )?;
-    all &= case(
+    let permitted = case(
         rt,
         "a relaxed and a strict write before a barrier, a permitted value",
         compliant(7),
@@ -250,5 +292,5 @@ pub fn over_a_barrier(rt: &LibcRuntime) -> io::Result<bool> {
             read(1, X, 0, 2),
         ],
     )?;
-    Ok(all)
+    Ok(forbidden && permitted)
 }

@@ -12,10 +12,23 @@ use crate::records::wait;
 use crate::records::write;
 use std::io;
 
-/// Where no barrier plays a part.
-pub fn without_barriers(rt: &LibcRuntime) -> io::Result<bool> {
+/// Judges every dark corner, and returns whether all are right.
+pub fn every_corner(rt: &LibcRuntime) -> io::Result<bool> {
     let mut all = true;
-    all &= case(
+    all &= relaxed_two_readers(rt)?;
+    all &= relaxed_one_reader(rt)?;
+    all &= strict_two_readers(rt)?;
+    all &= strict_one_reader(rt)?;
+    all &= own_and_remote(rt)?;
+    all &= relaxed_before_a_fence(rt)?;
+    all &= barrier_one_reader(rt)?;
+    all &= barrier_two_readers(rt)?;
+    Ok(all)
+}
+
+/// Two readers see relaxed writes in different orders.
+fn relaxed_two_readers(rt: &LibcRuntime) -> io::Result<bool> {
+    case(
         rt,
         "relaxed writes may be read in different orders by different threads",
         compliant(6),
@@ -28,8 +41,12 @@ pub fn without_barriers(rt: &LibcRuntime) -> io::Result<bool> {
             read(2, X, 0, 2),
             read(2, X, 0, 1),
         ],
-    )?;
-    all &= case(
+    )
+}
+
+/// One reader sees relaxed writes in the other order.
+fn relaxed_one_reader(rt: &LibcRuntime) -> io::Result<bool> {
+    case(
         rt,
         "relaxed writes may be read in different orders by one thread",
         compliant(5),
@@ -41,8 +58,12 @@ pub fn without_barriers(rt: &LibcRuntime) -> io::Result<bool> {
             read(1, X, 0, 2),
             read(1, X, 0, 1),
         ],
-    )?;
-    all &= case(
+    )
+}
+
+/// Two readers see strict writes of two threads in different orders.
+fn strict_two_readers(rt: &LibcRuntime) -> io::Result<bool> {
+    case(
         rt,
         "strict writes of two threads may be read in different orders by different threads",
         compliant(6),
@@ -55,8 +76,12 @@ pub fn without_barriers(rt: &LibcRuntime) -> io::Result<bool> {
             read(3, X, 1, 1),
             read(3, X, 0, 1),
         ],
-    )?;
-    all &= case(
+    )
+}
+
+/// One reader sees strict writes of two threads in the other order.
+fn strict_one_reader(rt: &LibcRuntime) -> io::Result<bool> {
+    case(
         rt,
         "strict writes of two threads may be read in different orders by one thread",
         compliant(5),
@@ -68,8 +93,12 @@ pub fn without_barriers(rt: &LibcRuntime) -> io::Result<bool> {
             read(2, X, 1, 1),
             read(2, X, 0, 1),
         ],
-    )?;
-    all &= case(
+    )
+}
+
+/// A writer sees its own and a remote write in the other order.
+fn own_and_remote(rt: &LibcRuntime) -> io::Result<bool> {
+    case(
         rt,
         "an own and a remote write may be read in different orders",
         compliant(5),
@@ -81,8 +110,12 @@ pub fn without_barriers(rt: &LibcRuntime) -> io::Result<bool> {
             read(1, X, 1, 1),
             read(1, X, 0, 1),
         ],
-    )?;
-    all &= case(
+    )
+}
+
+/// Relaxed writes that stand before one fence.
+fn relaxed_before_a_fence(rt: &LibcRuntime) -> io::Result<bool> {
+    case(
         rt,
         "relaxed writes before a fence may be read in different orders",
         compliant(8),
@@ -97,14 +130,12 @@ pub fn without_barriers(rt: &LibcRuntime) -> io::Result<bool> {
             read(1, X, 0, 2),
             read(1, X, 0, 1),
         ],
-    )?;
-    Ok(all)
+    )
 }
 
-/// Where the writes stand before a barrier.
-pub fn with_barriers(rt: &LibcRuntime) -> io::Result<bool> {
-    let mut all = true;
-    all &= case(
+/// One reader of relaxed writes that stand before a barrier.
+fn barrier_one_reader(rt: &LibcRuntime) -> io::Result<bool> {
+    case(
         rt,
         "relaxed writes before a barrier may be read in different orders by one thread",
         compliant(9),
@@ -120,8 +151,12 @@ pub fn with_barriers(rt: &LibcRuntime) -> io::Result<bool> {
             read(1, X, 0, 2),
             read(1, X, 0, 1),
         ],
-    )?;
-    all &= case(
+    )
+}
+
+/// Two readers of relaxed writes that stand before a barrier.
+fn barrier_two_readers(rt: &LibcRuntime) -> io::Result<bool> {
+    case(
         rt,
         "relaxed writes before a barrier may be read in different orders by different threads",
         compliant(12),
@@ -140,6 +175,5 @@ pub fn with_barriers(rt: &LibcRuntime) -> io::Result<bool> {
             read(2, X, 0, 2),
             read(2, X, 0, 1),
         ],
-    )?;
-    Ok(all)
+    )
 }

@@ -11,15 +11,11 @@ use std::io;
 fn main(rt: LibcRuntime) -> io::Result<()> {
     let mut all = true;
     println!(rt, "Compliance tests")?;
-    all &= compliance::own_and_strict(&rt)?;
-    all &= compliance::ordered_between(&rt)?;
-    all &= compliance::over_a_barrier(&rt)?;
+    all &= compliance::every_test(&rt)?;
     println!(rt, "Dark corners")?;
-    all &= corners::without_barriers(&rt)?;
-    all &= corners::with_barriers(&rt)?;
+    all &= corners::every_corner(&rt)?;
     println!(rt, "Worked traces")?;
-    all &= worked::writes_and_fences(&rt)?;
-    all &= worked::barriers_and_initial_values(&rt)?;
+    all &= worked::every_trace(&rt)?;
     if all {
         println!(rt, "every case is right")
     } else {
