@@ -1,4 +1,5 @@
 //! The judge's book: what is kept of each thread's records, by which a further record is judged and taken in constant time.
+#![tactic(auto)]
 
 mod book;
 mod fitting;

@@ -1,4 +1,5 @@
 //! A bundle of logs: a log for each thread, and a list of the threads in the order in which their records arrived.
+#![tactic(auto)]
 
 mod arrivals;
 mod laws;

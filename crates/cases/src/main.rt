@@ -1,4 +1,5 @@
 //! Judges the published cases and the worked traces, and says of each whether the judge is right.
+#![tactic(auto)]
 
 mod compliance;
 mod corners;

@@ -1,4 +1,5 @@
 //! Tests of the corners of records, trace files, bundles, renamings, relays and the judge; the crates under test stay quick to prove.
+#![tactic(auto)]
 
 #[cfg(test)]
 mod bundles;

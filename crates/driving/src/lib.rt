@@ -1,4 +1,5 @@
 //! A judge driven through a list of calls: what it answers, and what that tells of the bottom of its pile.
+#![tactic(auto)]
 
 mod agreeing;
 mod calls;

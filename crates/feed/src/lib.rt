@@ -1,4 +1,5 @@
 //! Where records come from: the trait of every feed, and why an input is refused.
+#![tactic(auto)]
 
 mod laws;
 mod refusals;

@@ -1,4 +1,5 @@
 //! The hold-back relay: a feed made of another, which holds some of one thread's records back while others pass them.
+#![tactic(auto)]
 
 mod held;
 mod holding;

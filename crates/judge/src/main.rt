@@ -1,4 +1,5 @@
 //! Judges the trace file on standard input, and prints one line.
+#![tactic(auto)]
 
 use judging::judge_file;
 use std::io;

@@ -1,4 +1,5 @@
 //! The judge for C, and for any program that can call C: one call over bytes, which answers in numbers.
+#![tactic(auto)]
 
 ghost use Rattle.std.specs.Prelude.{◌≡◌, cond, ◌++◌, leb, length, drop};
 ghost use Rattle.judging.specs.Lines.{line_of};

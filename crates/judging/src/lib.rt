@@ -1,4 +1,5 @@
 //! The judge: it takes a feed's records one by one, and tells what the trace comes to.
+#![tactic(auto)]
 
 mod answers;
 mod faults;

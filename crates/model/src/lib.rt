@@ -1,6 +1,7 @@
 //! When a record of a shared-memory trace is lawful, and the laws that every judge of one rests on.
 //!
 //! The rules stand in specs/Lawful.antt, and what they speak of in specs/Events.antt.
+#![tactic(auto)]
 
 mod laws;
 mod outcomes;

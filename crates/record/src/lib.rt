@@ -1,4 +1,5 @@
 //! A record of a shared-memory trace, and the twelve bytes that hold it in a file.
+#![tactic(auto)]
 
 mod causes;
 mod codec;

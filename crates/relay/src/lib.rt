@@ -1,4 +1,5 @@
 //! Relays that rename: feeds made of other feeds, whose records they pass on with threads or addresses under other names.
+#![tactic(auto)]
 
 mod addresses;
 mod deepening;

@@ -1,4 +1,5 @@
 //! Renamings: other names for the numbers below a count, there and back.
+#![tactic(auto)]
 
 mod entries;
 mod making;

@@ -1,4 +1,5 @@
 //! Shows trace files and bundles to people: what they hold, how they end, and of a trace that it can be written again.
+#![tactic(auto)]
 
 mod printing;
 

@@ -1,4 +1,5 @@
 //! Sends a trace through several piles of relays, and says whether the sites agree.
+#![tactic(auto)]
 
 mod comparing;
 mod piles;

@@ -1,4 +1,5 @@
 //! Trace files: reading one from lent bytes, and writing one into a lent buffer.
+#![tactic(auto)]
 
 mod copying;
 mod faults;

@@ -5,7 +5,7 @@ use Rattle.cases.proofs.judged.judged.Goals as goal
 pub returns-in-Ok : goal.returns-in-Ok
 returns-in-Ok c = λ f.
     let w = read_again c.args.threads c.args.records.now _ f refl in
-    c.judge-file.ensures ∙ line-is c.args.threads c.args.records.now _ _ w (c.in-Ok.ensures w).1 (16 + 12 * length c.args.records.now - 0) (omega arith)
+    c.judge_file.ensures ∙ line-is c.args.threads c.args.records.now _ _ w (c.in-Ok.ensures w).1 (16 + 12 * length c.args.records.now - 0) (omega arith)
 
 pub returns-in-Err : goal.returns-in-Err
 returns-in-Err c = λ f.

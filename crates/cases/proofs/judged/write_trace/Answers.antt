@@ -3,18 +3,18 @@ use Rattle.trace_file.specs.Laws.{all_appended, AllGranted}
 use Rattle.cases.proofs.Writing.{one_more, granted, finished}
 use Rattle.cases.proofs.judged.write_trace.Goals as goal
 
-pub returns-in-err-append : goal.returns-in-err-append
-returns-in-err-append c = λ r.
+pub returns-in_err-append : goal.returns-in_err-append
+returns-in_err-append c = λ r.
     let xs = c.args.records.now in
-    let g : AllGranted c.begin.new.buf xs = subst (λ b. AllGranted b xs) (sym c.in-ok-begin.ensures.after) r.appends_granted in
-    absurd (granted c.loop-record.buf xs c.loop-record.record-index _ c.loop-record-test.true c.in-err-append.field-0.0 c.in-err-append.ensures.answer (c.loop-record.invariant g).0)
+    let g : AllGranted c.begin.new.buf xs = subst (λ b. AllGranted b xs) (sym c.in_ok-begin.ensures.after) r.appends_granted in
+    absurd (granted c.loop-record.buf xs c.loop-record.record-index _ c.loop-record-test.true c.in_err-append.field-0.0 c.in_err-append.ensures.answer (c.loop-record.invariant g).0)
 
 pub loop-record-preserved : goal.loop-record-preserved
-loop-record-preserved c = λ g. one_more c.loop-record.buf c.args.records.now c.loop-record.record-index _ c.loop-record-test.true c.append.new.buf _ c.in-ok-append.ensures.after (c.loop-record.invariant g)
+loop-record-preserved c = λ g. one_more c.loop-record.buf c.args.records.now c.loop-record.record-index _ c.loop-record-test.true c.append.new.buf _ c.in_ok-append.ensures.after (c.loop-record.invariant g)
 
 pub returns : goal.returns
 returns c = λ r.
     let xs = c.args.records.now in
-    let e = c.in-ok-begin.ensures.after in
+    let e = c.in_ok-begin.ensures.after in
     let g : AllGranted c.begin.new.buf xs = subst (λ b. AllGranted b xs) (sym e) r.appends_granted in
     (refl, finished c.loop-record.buf _ xs c.loop-record.record-index c.loop-record-test.false (c.loop-record.invariant g).1 ∙ ap (λ b. all_appended b xs) e)

@@ -23,5 +23,5 @@ returns g c =
     let q = same a (answer_to (Run c.args.budget) (at_start m)) (sym e ∙ ap (λ es. (get_or es 0 any).answer) c.drive.ensures.exact) in
     record {
       exact = q;
-      one-outcome = λ u. of_one (g.P.Feed.pile c.args.pile) (Run c.args.budget) a c.drive.new.entries (c.drive.ensures.exact ∙ ap (λ k. record { call = Run c.args.budget; answer = Some k } ∷ []) (sym q)) (c.drive.ensures.one-outcome u);
+      one_outcome = λ u. of_one (g.P.Feed.pile c.args.pile) (Run c.args.budget) a c.drive.new.entries (c.drive.ensures.exact ∙ ap (λ k. record { call = Run c.args.budget; answer = Some k } ∷ []) (sym q)) (c.drive.ensures.one_outcome u);
     }

@@ -9,4 +9,4 @@ pub returns-in-Ok : goal.returns-in-Ok
 returns-in-Ok c =
     let m = feed_of.meaning c.in-Ok.file in
     let o = c.in-Ok.ensures.answer in
-    made_more c.compare-file.result (λ (same : Bool). length m.waiting < 4097 → same ≡ true) (λ (same : Bool). same ≡ is_ok (opened c.args.bytes.now)) (λ same h. h (waiting_few c.args.bytes.now m o) ∙ sym (ap is_ok o)) c.compare-file.ensures
+    made_more c.compare_file.result (λ (same : Bool). length m.waiting < 4097 → same ≡ true) (λ (same : Bool). same ≡ is_ok (opened c.args.bytes.now)) (λ same h. h (waiting_few c.args.bytes.now m o) ∙ sym (ap is_ok o)) c.compare_file.ensures

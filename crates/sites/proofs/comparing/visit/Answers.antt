@@ -4,4 +4,4 @@ use Rattle.sites.proofs.comparing.visit.Goals as goal
 
 pub returns : goal.returns
 returns c = λ l.
-    c.all-agree.ensures ∙ four-agree _ _ _ _ _ refl refl refl refl c.args.budget l _ _ _ _ _ (c.in-ok-bottom.ensures tt) (c.in-ok-rotated.ensures tt) (c.in-ok-tabled.ensures tt) (c.in-ok-deep.ensures tt) (c.in-ok-refused.ensures tt)
+    c.all_agree.ensures ∙ four-agree _ _ _ _ _ refl refl refl refl c.args.budget l _ _ _ _ _ (c.in_ok-bottom.ensures tt) (c.in_ok-rotated.ensures tt) (c.in_ok-tabled.ensures tt) (c.in_ok-deep.ensures tt) (c.in_ok-refused.ensures tt)

@@ -11,9 +11,9 @@ pub returns : goal.returns
 returns g c = λ u.
     let d = g.F.Feed-dict in
     let hold = holds_back c.args.hold.thread c.args.hold.capacity in
-    let p = c.put-on-turned.ensures.put_on d d in
-    let q = c.put-on-behind.ensures.put_on d in
-    let r = c.put-on-named.ensures.put_on d d in
-    let s = c.put-on.ensures.put_on d d in
+    let p = c.put_on-turned.ensures.put_on d d in
+    let q = c.put_on-behind.ensures.put_on d in
+    let r = c.put_on-named.ensures.put_on d d in
+    let s = c.put_on.ensures.put_on d d in
     let whole = s.pile ∙ ap (on (addresses_by rotation_ways c.args.addresses)) (r.pile ∙ ap (on (threads_by table_ways c.args.table)) (q.pile ∙ ap (on hold) p.pile)) in
     subst (λ k. TellsBottom (on hold k) c.args.budget (outcome_in (Some c.held.result))) whole (c.held.ensures (s.unread (r.unread (q.unread (p.unread u)))))

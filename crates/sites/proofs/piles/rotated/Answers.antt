@@ -5,5 +5,5 @@ use Rattle.sites.proofs.piles.rotated.Goals as goal
 
 pub returns : goal.returns
 returns g c = λ u.
-    let p = c.put-on.ensures.put_on g.F.Feed-dict g.F.Feed-dict in
-    subst (λ k. TellsBottom k c.args.budget (outcome_in (Some c.run-once.result))) p.pile (c.run-once.ensures.one-outcome (p.unread u))
+    let p = c.put_on.ensures.put_on g.F.Feed-dict g.F.Feed-dict in
+    subst (λ k. TellsBottom k c.args.budget (outcome_in (Some c.run_once.result))) p.pile (c.run_once.ensures.one_outcome (p.unread u))

@@ -13,4 +13,4 @@ pub returns : goal.returns
 returns g c =
     let s = c.args.set.now in
     let p : Pile = on (holds_back 0 16) (on (addresses_by rotation_ways s.shift) (on (threads_by table_ways s.names) (on (holds_back 0 16) (on (threads_by rotation_ways s.turn) (g.F.Feed.pile c.args.feed))))) in
-    made_more c.print-site.result (λ (o : Option Outcome). o ≡ outcome_in (Some c.deep-answer.result)) (λ (o : Option Outcome). g.F.Feed.unread c.args.feed → TellsBottom p c.args.budget o) (λ o e u. subst (TellsBottom p c.args.budget) (sym e) (c.deep-answer.ensures u)) c.print-site.ensures
+    made_more c.print_site.result (λ (o : Option Outcome). o ≡ outcome_in (Some c.deep-answer.result)) (λ (o : Option Outcome). g.F.Feed.unread c.args.feed → TellsBottom p c.args.budget o) (λ o e u. subst (TellsBottom p c.args.budget) (sym e) (c.deep-answer.ensures u)) c.print_site.ensures

@@ -4,21 +4,21 @@ use Rattle.trace_file.specs.contracts.reading.TraceFileFeed.TheImpl.{ghosts as f
 use Rattle.trace_file.proofs.Copied.{clean-source, copy-granted, copy-bytes, copy-answer}
 use Rattle.trace_file.proofs.copying.copy_trace.Goals as goal
 
-pub append-all-requires : goal.append-all-requires
-append-all-requires c =
+pub append_all-requires : goal.append_all-requires
+append_all-requires c =
     let src = c.args.source.now in
     let tgt = c.args.target.now in
-    let f = c.in-ok-file.file in
-    let s = clean-source src tgt (feed_of.meaning c.in-ok-open.field-0) (feed_of.meaning f) (λ k. (c.type-inv.source k).fits) c.in-ok-open.ensures.answer _ c.in-ok-read-through.ensures c.in-ok-file.ensures.answer (file_sound f.counts f.records.now f.at) (omega arith) (omega arith) in
-    record { granted = copy-granted src tgt (feed_of.meaning f) c.counts.result _ s c.counts.ensures c.in-ok-begin.ensures.after; undamaged = s.undamaged }
+    let f = c.in_ok-file.file in
+    let s = clean-source src tgt (feed_of.meaning c.in_ok-open.field-0) (feed_of.meaning f) (λ k. (c.type-inv.source k).fits) c.in_ok-open.ensures.answer _ c.in_ok-read_through.ensures c.in_ok-file.ensures.answer (file_sound f.counts f.records.now f.at) (omega arith) (omega arith) in
+    record { granted = copy-granted src tgt (feed_of.meaning f) c.counts.result _ s c.counts.ensures c.in_ok-begin.ensures.after; undamaged = s.undamaged }
 
 pub returns : goal.returns
 returns c =
     let src = c.args.source.now in
     let tgt = c.args.target.now in
-    let f = c.in-ok-file.file in
-    let s = clean-source src tgt (feed_of.meaning c.in-ok-open.field-0) (feed_of.meaning f) (λ k. (c.type-inv.source k).fits) c.in-ok-open.ensures.answer _ c.in-ok-read-through.ensures c.in-ok-file.ensures.answer (file_sound f.counts f.records.now f.at) (omega arith) (omega arith) in
+    let f = c.in_ok-file.file in
+    let s = clean-source src tgt (feed_of.meaning c.in_ok-open.field-0) (feed_of.meaning f) (λ k. (c.type-inv.source k).fits) c.in_ok-open.ensures.answer _ c.in_ok-read_through.ensures c.in_ok-file.ensures.answer (file_sound f.counts f.records.now f.at) (omega arith) (omega arith) in
     record {
       answer = copy-answer src tgt (feed_of.meaning f) s;
-      after = c.in-ok-append-all.ensures.after ∙ copy-bytes src tgt (feed_of.meaning f) c.counts.result _ s c.counts.ensures c.in-ok-begin.ensures.after;
+      after = c.in_ok-append_all.ensures.after ∙ copy-bytes src tgt (feed_of.meaning f) c.counts.result _ s c.counts.ensures c.in_ok-begin.ensures.after;
     }

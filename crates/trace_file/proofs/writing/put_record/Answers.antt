@@ -16,8 +16,8 @@ returns c =
     let r = room bs long in
     let fits : s + 12 ≤ length (behind bs) = omega arith in
     let slot = take (s + 12 - s) (drop s (behind bs)) in
-    let e = c.write-record.ensures.answer ∙ writable_then c.args.counts x (length slot) c.requires.well_made (slot-long (behind bs) s fits) in
+    let e = c.write_record.ensures.answer ∙ writable_then c.args.counts x (length slot) c.requires.well_made (slot-long (behind bs) s fits) in
     record {
       answer = e;
-      after = whole bs _ x s long fits (c.write-record.ensures.after ∙ ap (λ r. cond (is_ok r) (bytes_of x ++ drop 12 slot) slot) e) ∙ ap (λ k. placed (16 + 12 * k) (bytes_of x) bs) n;
+      after = whole bs _ x s long fits (c.write_record.ensures.after ∙ ap (λ r. cond (is_ok r) (bytes_of x ++ drop 12 slot) slot) e) ∙ ap (λ k. placed (16 + 12 * k) (bytes_of x) bs) n;
     }

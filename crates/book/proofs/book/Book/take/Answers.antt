@@ -5,7 +5,7 @@ use Rattle.book.proofs.book.Book.take.Goals as goal
 
 pub returns-then-fits : goal.returns-then-fits
 returns-then-fits c =
-    let e : c.write-up.new.self.pages ≡ taken c.args.threads c.args.self.now.pages c.args.record.now = search rules in
+    let e : c.write_up.new.self.pages ≡ taken c.args.threads c.args.self.now.pages c.args.record.now = search rules in
     record { exact = e; others = others-stay c.args.threads c.args.self.now c.args.record.now _ e; keeps = lawful-kept c.args.threads c.args.self.now c.args.record.now _ e }
 
 pub returns-else-threads-le8 : goal.returns-else-threads-le8

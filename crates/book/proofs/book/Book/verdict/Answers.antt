@@ -5,5 +5,5 @@ use Rattle.book.proofs.book.Book.verdict.Goals as goal
 
 pub returns-else-self-thread-ge512 : goal.returns-else-self-thread-ge512
 returns-else-self-thread-ge512 c =
-    let e : c.kind-reason.result ≡ said c.args.threads c.args.self.now.pages c.args.record.now = search rules in
+    let e : c.kind_reason.result ≡ said c.args.threads c.args.self.now.pages c.args.record.now = search rules in
     record { exact = e; keeps = λ h k m. e ∙ said-is c.args.threads c.args.self.now h k c.args.record.now (fits_in c.args.threads c.args.record.now m) }

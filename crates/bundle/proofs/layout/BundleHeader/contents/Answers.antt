@@ -5,5 +5,5 @@ use Rattle.bundle.proofs.layout.BundleHeader.contents.Goals as goal
 
 pub returns : goal.returns
 returns c =
-    let told = c.in-ok-counts.ensures in
-    record { answer = ap (contents_under c.args.self.now) told; within = within c.args.length c.args.self.now c.in-ok-counts.counts told }
+    let told = c.in_ok-counts.ensures in
+    record { answer = ap (contents_under c.args.self.now) told; within = within c.args.length c.args.self.now c.in_ok-counts.counts told }

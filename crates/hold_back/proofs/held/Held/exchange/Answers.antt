@@ -6,7 +6,7 @@ use Rattle.hold_back.proofs.held.Held.exchange.Goals as goal
 pub join-requires : goal.join-requires
 join-requires c =
     let s = c.args.self.now in
-    let t = c.let-go.new.self in
+    let t = c.let_go.new.self in
     let e : queued s.queue.slots s.queue.len ≡ c.in-Some.oldest ∷ queued t.queue.slots t.queue.len = c.in-Some.ensures.2 in
     let l = ap length e in
     let k = length-take s.queue.len s.queue.slots in

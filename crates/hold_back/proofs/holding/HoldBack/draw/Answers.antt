@@ -3,8 +3,8 @@ use Rattle.feed.specs.Meaning.{Asked}
 use Rattle.hold_back.proofs.Holds.{few-held, can-be-held}
 use Rattle.hold_back.proofs.holding.HoldBack.draw.Goals as goal
 
-pub take-in-requires : goal.take-in-requires
-take-in-requires g c =
+pub take_in-requires : goal.take_in-requires
+take_in-requires g c =
     let F = g.F.Feed in
     let s = c.loop-record.self in
     let m = F.meaning s.feed in

@@ -10,7 +10,7 @@ returns-in-None g c =
     let m = g.P.Feed.meaning j.pile in
     let n = g.P.Feed.meaning c.next.new.self in
     let w = g.P.Feed.laws.sound j.pile in
-    let a : Asked m (Ok (Some x)) n = subst (λ o. Asked m (Ok o) n) c.in-Some.is c.in-ok-record.ensures in
+    let a : Asked m (Ok (Some x)) n = subst (λ o. Asked m (Ok o) n) c.in-Some.is c.in_ok-record.ensures in
     record {
       same = (refl, refl);
       drawn = λ s st. drawn-lawful m n x a j.book j.told w s st (sym (judged m n x a j.book j.told w c.counts-threads.result c.counts-threads.ensures c.verdict.result c.verdict.ensures.keeps s st) ∙ c.in-None.is);
@@ -23,7 +23,7 @@ returns-in-Some-verdict g c =
     let m = g.P.Feed.meaning j.pile in
     let n = g.P.Feed.meaning c.next.new.self in
     let w = g.P.Feed.laws.sound j.pile in
-    let a : Asked m (Ok (Some x)) n = subst (λ o. Asked m (Ok o) n) c.in-Some.is c.in-ok-record.ensures in
+    let a : Asked m (Ok (Some x)) n = subst (λ o. Asked m (Ok o) n) c.in-Some.is c.in_ok-record.ensures in
     record {
       same = (refl, refl);
       drawn = λ s st. drawn-unlawful m n x a j.book j.told s c.in-Some-verdict.reason _ _ st (sym (judged m n x a j.book j.told w c.counts-threads.result c.counts-threads.ensures c.verdict.result c.verdict.ensures.keeps s st) ∙ c.in-Some-verdict.is) c.thread.ensures (indexed m n x a j.book j.told w c.thread-in-Some-verdict.result c.index.result c.thread-in-Some-verdict.ensures c.index.ensures.keeps s st);
