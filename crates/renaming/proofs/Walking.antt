@@ -15,7 +15,7 @@ decided xs n false h =
     (λ (e : stands n xs ≡ false). sym e) (cases_Bool (stands n xs))
 
 -- what `contains` answers
-pub stands-from-contains : (xs : List ℕ) (n : ℕ) (r : Bool) → IsAnyAnswer (λ y t. Decides t (y ≡ n)) xs r → r ≡ stands n xs
+pub stands-from-contains : (xs : List ℕ) (n : ℕ) (r : Bool) → IsAnyAnswer (λ y t. eqb y n ≡ t) xs r → r ≡ stands n xs
 stands-from-contains xs n r h = decided xs n r (contains_decides eqb Decides-eqb xs n r h)
 
 -- n stands at i, and nowhere in front

@@ -5,4 +5,4 @@ use Rattle.trace_file.proofs.writing.empty_header.Goals as goal
 
 pub returns : goal.returns
 returns c =
-    header-spelled c.args.counts _ _ (c.to-be-bytes.ensures ∙ ap two_bytes c.from.ensures) (c.to-be-bytes-2.ensures ∙ ap two_bytes c.from-2.ensures)
+    header-spelled c.args.counts _ _ (c.to_be_bytes.ensures ∙ ap two_bytes c.from.ensures) (c.to_be_bytes-2.ensures ∙ ap two_bytes c.from-2.ensures)

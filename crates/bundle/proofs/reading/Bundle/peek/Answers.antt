@@ -9,7 +9,7 @@ returns-then-self c =
 pub returns-in_err-slot : goal.returns-in_err-slot
 returns-in_err-slot c =
     let s = c.args.self.now in
-    rw c.from-residual.ensures (peeked-none s.counts s.bytes.now s.logs s.arrivals.now s.at c.from-log.result c.if-self.false c.from-log.ensures c.in_err-slot.ensures)
+    rw c.from_residual.ensures (peeked-none s.counts s.bytes.now s.logs s.arrivals.now s.at c.from-log.result c.if-self.false c.from-log.ensures c.in_err-slot.ensures)
 
 pub returns : goal.returns
 returns c =

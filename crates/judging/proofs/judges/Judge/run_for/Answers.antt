@@ -2,8 +2,8 @@ use Rattle.std.proofs.Common.{◌≡◌, true, is_some, None, sym, refl, ap, ◌
 use Rattle.judging.proofs.Running.{taken_none, so-more, run_settled, run-used, run-refused}
 use Rattle.judging.proofs.judges.Judge.run_for.Goals as goal
 
-pub returns-then-is-some : goal.returns-then-is-some
-returns-then-is-some g c =
+pub returns-then-is_some : goal.returns-then-is_some
+returns-then-is_some g c =
     let j = c.args.self.now in
     let told : is_some j.told ≡ true = search rules in
     record { exact = λ s st. run-refused s c.args.budget (g.P.Feed.meaning j.pile) j.book j.told told st; refusal = refl }
