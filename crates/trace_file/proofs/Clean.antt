@@ -26,18 +26,18 @@ sixteen : (l : List ℕ) → 16 ≤ length l
     → take 16 l ≡ get_or l 0 0 ∷ get_or l 1 0 ∷ get_or l 2 0 ∷ get_or l 3 0 ∷ get_or l 4 0 ∷ get_or l 5 0 ∷ get_or l 6 0 ∷ get_or l 7 0 ∷ get_or l 8 0 ∷ get_or l 9 0 ∷ get_or l 10 0 ∷ get_or l 11 0 ∷ get_or l 12 0 ∷ get_or l 13 0 ∷ get_or l 14 0 ∷ get_or l 15 0 ∷ []
 sixteen l h = fill_by_all (λ k. get_or l k 0) (take 16 l) 16 0 (length-take-le 16 l h) (λ k b. get_or-take 16 l k 0 b)
 
-two_bytes : (a b : ℕ) → a < 256 → b < 256 → two_bytes (two a b) ≡ a ∷ b ∷ []
-two_bytes a b h k = λ i. two-high a b h k i ∷ two-low a b h k i ∷ []
+two_bytes-two : (a b : ℕ) → a < 256 → b < 256 → two_bytes (two a b) ≡ a ∷ b ∷ []
+two_bytes-two a b h k = λ i. two-high a b h k i ∷ two-low a b h k i ∷ []
 
-four_bytes : (a b c d : ℕ) → a < 256 → b < 256 → c < 256 → d < 256 → four_bytes (four a b c d) ≡ a ∷ b ∷ c ∷ d ∷ []
-four_bytes a b c d h k l m = λ i. four-0 a b c d h k l m i ∷ four-1 a b c d h k l m i ∷ four-2 a b c d h k l m i ∷ four-3 a b c d h k l m i ∷ []
+four_bytes-four : (a b c d : ℕ) → a < 256 → b < 256 → c < 256 → d < 256 → four_bytes (four a b c d) ≡ a ∷ b ∷ c ∷ d ∷ []
+four_bytes-four a b c d h k l m = λ i. four-0 a b c d h k l m i ∷ four-1 a b c d h k l m i ∷ four-2 a b c d h k l m i ∷ four-3 a b c d h k l m i ∷ []
 
 -- the header's fields, written out again, are its bytes
 header-same : (bs : List ℕ) → AllBytes bs → 16 ≤ length bs
     → two_bytes (header_of bs).threads ++ (two_bytes (header_of bs).addresses ++ (four_bytes (header_of bs).count ++ (four_bytes (header_of bs).offset ++ four_bytes (header_of bs).«length»))) ≡ take 16 bs
 header-same bs h long =
     let b = λ (k : ℕ). get_or bs k 0 in
-    (λ i. two_bytes (b 0) (b 1) (h 0) (h 1) i ++ (two_bytes (b 2) (b 3) (h 2) (h 3) i ++ (four_bytes (b 4) (b 5) (b 6) (b 7) (h 4) (h 5) (h 6) (h 7) i ++ (four_bytes (b 8) (b 9) (b 10) (b 11) (h 8) (h 9) (h 10) (h 11) i ++ four_bytes (b 12) (b 13) (b 14) (b 15) (h 12) (h 13) (h 14) (h 15) i))))
+    (λ i. two_bytes-two (b 0) (b 1) (h 0) (h 1) i ++ (two_bytes-two (b 2) (b 3) (h 2) (h 3) i ++ (four_bytes-four (b 4) (b 5) (b 6) (b 7) (h 4) (h 5) (h 6) (h 7) i ++ (four_bytes-four (b 8) (b 9) (b 10) (b 11) (h 8) (h 9) (h 10) (h 11) i ++ four_bytes-four (b 12) (b 13) (b 14) (b 15) (h 12) (h 13) (h 14) (h 15) i))))
     ∙ sym (sixteen bs long)
 
 pub header_is : (bs : List ℕ) (c : Counts) (fits : Bool) → AllBytes bs → 16 ≤ length bs → HeaderPassed 4096 fits (header_of bs) c → header_bytes c (header_of bs).count ≡ take 16 bs

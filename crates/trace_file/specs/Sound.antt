@@ -12,8 +12,8 @@ use Rattle.feed.specs.Delivery.{ReadWellMade, delivering-sound, delivering-found
 use Rattle.trace_file.specs.Layout.{twelves}
 use Rattle.trace_file.specs.Opening.{read_as, in_range, file_meaning}
 
-pub in_range : (c : Counts) → CountsInRange (in_range c)
-in_range c = record { some_thread = omega arith; few_threads = omega arith; some_address = omega arith; few_addresses = omega arith }
+pub counts_in_range : (c : Counts) → CountsInRange (in_range c)
+counts_in_range c = record { some_thread = omega arith; few_threads = omega arith; some_address = omega arith; few_addresses = omega arith }
 
 one-well-made : (c : Counts) (bs : List ℕ) (rest : List (Result Record Cause)) (r : Result Record Cause) → decoded c None bs ≡ r → ReadWellMade c rest → ReadWellMade c (r ∷ rest)
 one-well-made c bs rest (Ok x) e h = (decoded-is-well-made c None bs x e, h)
@@ -24,7 +24,7 @@ all_well_made c [] = tt
 all_well_made c (t ∷ ts) = one-well-made c t (read_as c ts) (decoded c None t) refl (all_well_made c ts)
 
 pub file_sound : (c : Counts) (bs : List ℕ) (at : ℕ) → WellMade (file_meaning c bs at)
-file_sound c bs at = delivering-sound (in_range c) (at / 12) (read_as (in_range c) (twelves ((length bs - at) / 12) (drop at bs))) (in_range c) (all_well_made (in_range c) (twelves ((length bs - at) / 12) (drop at bs)))
+file_sound c bs at = delivering-sound (in_range c) (at / 12) (read_as (in_range c) (twelves ((length bs - at) / 12) (drop at bs))) (counts_in_range c) (all_well_made (in_range c) (twelves ((length bs - at) / 12) (drop at bs)))
 
 pub file_found : (c : Counts) (bs : List ℕ) (at : ℕ) → FoundHere (file_meaning c bs at).ending
 file_found c bs at = delivering-found (at / 12) (read_as (in_range c) (twelves ((length bs - at) / 12) (drop at bs)))

@@ -2,8 +2,8 @@ use Rattle.std.proofs.Common.{◌<◌, ◌≤◌, length, arith}
 use Rattle.bundle.proofs.Tallied.{tally-more, tally-few, names_more, names-another, names-all}
 use Rattle.bundle.proofs.arrivals.tally.Goals as goal
 
-pub overflow-add-named : goal.overflow-add-named
-overflow-add-named c =
+pub overflow_add-named : goal.overflow_add-named
+overflow_add-named c =
     let i = c.loop-thread.thread-index in
     let e = c.from.ensures in
     let below : c.from.result < 8 = omega arith in

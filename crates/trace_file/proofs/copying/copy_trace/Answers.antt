@@ -9,7 +9,7 @@ append_all-requires c =
     let src = c.args.source.now in
     let tgt = c.args.target.now in
     let f = c.in_ok-file.file in
-    let s = clean-source src tgt (feed_of.meaning c.in_ok-open.field-0) (feed_of.meaning f) (λ k. (c.type-inv.source k).fits) c.in_ok-open.ensures.answer _ c.in_ok-read_through.ensures c.in_ok-file.ensures.answer (file_sound f.counts f.records.now f.at) (omega arith) (omega arith) in
+    let s = clean-source src tgt (feed_of.meaning c.in_ok-open.field-0) (feed_of.meaning f) (λ k. (c.type_inv.source k).fits) c.in_ok-open.ensures.answer _ c.in_ok-read_through.ensures c.in_ok-file.ensures.answer (file_sound f.counts f.records.now f.at) (omega arith) (omega arith) in
     record { granted = copy-granted src tgt (feed_of.meaning f) c.counts.result _ s c.counts.ensures c.in_ok-begin.ensures.after; undamaged = s.undamaged }
 
 pub returns : goal.returns
@@ -17,7 +17,7 @@ returns c =
     let src = c.args.source.now in
     let tgt = c.args.target.now in
     let f = c.in_ok-file.file in
-    let s = clean-source src tgt (feed_of.meaning c.in_ok-open.field-0) (feed_of.meaning f) (λ k. (c.type-inv.source k).fits) c.in_ok-open.ensures.answer _ c.in_ok-read_through.ensures c.in_ok-file.ensures.answer (file_sound f.counts f.records.now f.at) (omega arith) (omega arith) in
+    let s = clean-source src tgt (feed_of.meaning c.in_ok-open.field-0) (feed_of.meaning f) (λ k. (c.type_inv.source k).fits) c.in_ok-open.ensures.answer _ c.in_ok-read_through.ensures c.in_ok-file.ensures.answer (file_sound f.counts f.records.now f.at) (omega arith) (omega arith) in
     record {
       answer = copy-answer src tgt (feed_of.meaning f) s;
       after = c.in_ok-append_all.ensures.after ∙ copy-bytes src tgt (feed_of.meaning f) c.counts.result _ s c.counts.ensures c.in_ok-begin.ensures.after;
