@@ -2,7 +2,7 @@ use Rattle.std.proofs.Common.{◌≡◌, length, sym, ◌∙◌, rules}
 use Rattle.std.proofs.lemmas.Slice.Eq.{slice_eq-Decides}
 use Rattle.show.proofs.Again.{answered, came-out, told}
 use Rattle.show.proofs.printing.written_again.Goals as goal
-use Rattle.show.proofs.printing.written_again.Goals.{then-is-ok, else-is-ok}
+use Rattle.show.proofs.printing.written_again.Goals.{then-is_ok, else-is_ok}
 use Rattle.std.proofs.lemmas.Bool.Decides.{Decides-eqb}
 
 pub returns : goal.returns
@@ -13,9 +13,9 @@ returns c =
     let l : length c.as_mut_slice.result.now ≡ length bs = c.as_mut_slice.ensures.len ∙ n in
     let a = answered bs c.as_mut_slice.result.now c.copy_trace-copied.result l k.answer in
     elim c.if-is_ok.branch [
-      | then-is-ok w ↦ (
+      | then-is_ok w ↦ (
           let o = sym c.is_ok.ensures.value ∙ w.if-is_ok.true in
           let v = w.as_slice.ensures.value ∙ came-out bs c.as_mut_slice.result.now c.copy_trace-copied.new.target _ _ _ l n o k.after in
           w.result-is ∙ told bs w.as_slice.result.now w.eq.result _ v (slice_eq-Decides Decides-eqb _ _ _ w.eq.ensures) o a)
-      | else-is-ok w ↦ w.result-is ∙ (c.is_ok.ensures.value ∙ a)
+      | else-is_ok w ↦ w.result-is ∙ (c.is_ok.ensures.value ∙ a)
     ]
