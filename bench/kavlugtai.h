@@ -1,6 +1,6 @@
 /* The judge of shared-memory traces, for C.
  *
- * Link libjudge_c.a, which `rt staticlib judge_c` writes to target/staticlib/.
+ * Link libjudge_c.a, which `rt lib` in crates/judge_c writes to crates/judge_c/out/.
  * It calls nothing but memcpy and memset, keeps nothing between calls, and
  * allocates nothing, so any number of threads may call it at once. A call
  * takes about 180 KiB of stack.

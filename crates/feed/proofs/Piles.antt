@@ -1,19 +1,18 @@
 -- Relays and piles keep every thread's account, up to renaming.
-use Rattle.std.proofs.Common.{◌≡◌, ℕ, Bool, true, false, cond, ◌&&◌, eqb, leb, List, [], ◌∷◌, map, reverse, Ok, sym, refl, ap, ◌∙◌, subst, eqb-true}
+use Rattle.std.proofs.Common.{◌≡◌, ℕ, Bool, true, false, cond, ◌&&◌, eqb, leb, List, [], ◌∷◌, map, reverse, refl, subst, eqb-true}
 use mathlib.Core.List.{reverse_aux}
 use Rattle.std.proofs.lemmas.Bool.{and_parts}
 use Rattle.record.specs.declared.kinds.Counts.{Counts}
 use Rattle.record.specs.declared.kinds.Record.{Record}
-use Rattle.record.specs.WellMade.{checked, AllWellMade}
+use Rattle.record.specs.WellMade.{AllWellMade}
 use Rattle.model.specs.HoldBack.{held_back}
 use Rattle.model.specs.Renamed.{Renaming, renamed}
 use Rattle.model.specs.Tells.{unchanged}
 use Rattle.model.specs.Upto.{Upto}
 use Rattle.model.proofs.HoldBack.{hold-back-rule}
 use Rattle.model.proofs.Upto.{same_names, itself, upper-made, reordered, renamed_further}
-use Rattle.feed.specs.Meaning.{Meaning, WellMade}
-use Rattle.feed.specs.Pile.{Relay, renames_threads, renames_addresses, holds_back, serves, fits, passed_on, sent_back, thread_below, through, ProperRelay, Pile, bottom, on, bottoms_records, delivered, thread_at_bottom, Proper}
-use Rattle.feed.specs.Alike.{AlikeBy, KeepsAlike, RelaysKeepAccounts, PilesKeepAccounts, RelaysStayWellMade}
+use Rattle.feed.specs.Pile.{Relay, renames_threads, renames_addresses, holds_back, serves, fits, passed_on, sent_back, thread_below, through, ProperRelay, bottom, on, bottoms_records, delivered, thread_at_bottom}
+use Rattle.feed.specs.Alike.{AlikeBy, RelaysKeepAccounts, PilesKeepAccounts, RelaysStayWellMade}
 
 -- Lists from the other end --------------------------------------------------------------------------------------------
 

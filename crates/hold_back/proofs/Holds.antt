@@ -1,5 +1,5 @@
 -- What is known while a relay holds back: what comes from below can be held.
-use Rattle.std.proofs.Common.{◌≡◌, ℕ, ◌≤◌, Bool, true, ◌&&◌, ltb, leb, is_ok, Some, Ok, sym, refl, ap, ◌∙◌, leb-true}
+use Rattle.std.proofs.Common.{◌≡◌, ℕ, ◌≤◌, true, ◌&&◌, ltb, leb, is_ok, Some, Ok, ap, ◌∙◌, leb-true}
 use Rattle.std.proofs.lemmas.Bool.{and_parts}
 use Rattle.record.specs.declared.kinds.Counts.{Counts}
 use Rattle.record.specs.declared.kinds.Record.{Record}

@@ -1,10 +1,9 @@
 -- A judge on an unread pile tells of the pile's bottom.
-use Rattle.std.proofs.Common.{◌≡◌, ℕ, zero, suc, ◌+◌, ◌<◌, min, List, [], ◌∷◌, reverse, length, Some, None, Option, sym, refl, ap, ◌∙◌, subst, arith}
+use Rattle.std.proofs.Common.{◌≡◌, ℕ, suc, ◌+◌, min, List, [], ◌∷◌, reverse, length, Some, Option, sym, refl, ap, ◌∙◌, subst, arith}
 use mathlib.Core.List.{reverse_aux}
 use Rattle.record.specs.declared.kinds.Record.{Record}
 use Rattle.record.specs.declared.causes.Damage.{Damage}
 use Rattle.record.specs.Ending.{Ending, clean, damaged}
-use Rattle.model.specs.declared.reasons.Reason.{Reason}
 use Rattle.model.specs.declared.outcomes.Outcome.{Outcome}
 use Rattle.model.specs.declared.outcomes.Outcome.TheVariants.{Compliant, Unlawful, Damaged}
 use Rattle.model.specs.Laws.{by_axioms}

@@ -1,5 +1,5 @@
 -- One record asked for, and what a step makes of it.
-use Rattle.std.proofs.Common.{◌≡◌, ℕ, ◌<◌, List, [], ◌∷◌, Some, None, Ok, Err, Option, Result, sym, refl, ap, ◌∙◌, subst, arith}
+use Rattle.std.proofs.Common.{◌≡◌, ℕ, ◌<◌, List, ◌∷◌, Some, None, Ok, Err, Option, sym, refl, ap, ◌∙◌, subst, arith}
 use Rattle.record.specs.declared.kinds.Counts.{Counts}
 use Rattle.record.specs.declared.kinds.Record.{Record}
 use Rattle.record.specs.WellMade.{thread_of, checked, AllWellMade}
@@ -11,7 +11,6 @@ use Rattle.model.specs.Laws.{by_axioms}
 use Rattle.feed.specs.Meaning.{Meaning, Asked, WellMade}
 use Rattle.book.specs.declared.book.Book.{Book}
 use Rattle.book.specs.Kept.{Kept, WellMadeIn}
-use Rattle.judging.specs.declared.faults.Fault.{Fault}
 use Rattle.judging.specs.declared.faults.Fault.TheVariants.{Unlawful}
 use Rattle.judging.specs.declared.answers.StepAnswer.TheVariants.{Taken, Settled}
 use Rattle.judging.specs.Faults.{fault_outcome}

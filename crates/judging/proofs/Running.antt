@@ -1,5 +1,5 @@
 -- Steps one after the other.
-use Rattle.std.proofs.Common.{◌≡◌, ℕ, zero, suc, ◌+◌, ◌-◌, ◌<◌, ◌≤◌, true, List, [], ◌∷◌, length, is_some, Some, None, Ok, Err, Option, Result, sym, refl, ap, ◌∙◌, subst, suc-add, zero-add, add-one, arith}
+use Rattle.std.proofs.Common.{◌≡◌, ℕ, zero, suc, ◌+◌, ◌-◌, ◌<◌, ◌≤◌, true, List, [], ◌∷◌, length, is_some, Some, None, Ok, Err, Option, sym, refl, ap, ◌∙◌, subst, suc-add, zero-add, add-one, arith}
 use Rattle.record.specs.declared.kinds.Record.{Record}
 use Rattle.model.specs.declared.reasons.Reason.{Reason}
 use Rattle.model.specs.declared.outcomes.Outcome.{Outcome}
@@ -8,7 +8,6 @@ use Rattle.model.specs.Laws.{by_axioms}
 use Rattle.feed.specs.declared.refusals.Refusal.TheVariants.{AlreadySettled}
 use Rattle.feed.specs.Meaning.{Meaning}
 use Rattle.book.specs.declared.book.Book.{Book}
-use Rattle.judging.specs.declared.answers.StepAnswer.{StepAnswer}
 use Rattle.judging.specs.declared.answers.StepAnswer.TheVariants.{Taken, Settled}
 use Rattle.judging.specs.declared.answers.RunAnswer.TheVariants.{BudgetUsed, Settled as RunSettled}
 use Rattle.judging.specs.Standing.{Standing, after_record, after_asking, step_under, advance, advance_by}

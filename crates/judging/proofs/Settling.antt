@@ -1,5 +1,5 @@
 -- A judge settles with the outcome of the list.
-use Rattle.std.proofs.Common.{◌≡◌, ℕ, zero, suc, ◌+◌, ◌<◌, ◌≤◌, List, [], ◌∷◌, length, Some, None, Ok, Err, Option, Result, sym, refl, ap, ◌∙◌, subst, le_of_suc-le-suc, not-suc-le-zero, add-zero, arith}
+use Rattle.std.proofs.Common.{◌≡◌, ℕ, zero, suc, ◌+◌, ◌<◌, List, [], ◌∷◌, length, Some, None, Ok, Err, Option, Result, sym, refl, ap, ◌∙◌, le_of_suc-le-suc, not-suc-le-zero, add-zero, arith}
 use Rattle.record.specs.declared.kinds.Record.{Record}
 use Rattle.model.specs.declared.reasons.Reason.{Reason}
 use Rattle.model.specs.declared.outcomes.Outcome.{Outcome}
@@ -11,7 +11,7 @@ use Rattle.model.specs.Laws.{by_axioms}
 use Rattle.record.specs.declared.kinds.Counts.{Counts}
 use Rattle.record.specs.Ending.{Ending}
 use Rattle.feed.specs.Meaning.{Meaning}
-use Rattle.judging.specs.Standing.{Standing, at_start, advance, advance_by, after_record}
+use Rattle.judging.specs.Standing.{Standing, at_start, advance_by, after_record}
 use Rattle.judging.specs.Answers.{run_told, tally, run_answer}
 use Rattle.judging.specs.Lines.{outcome_line}
 use Rattle.judging.specs.declared.answers.RunAnswer.{RunAnswer}

@@ -1,5 +1,5 @@
 -- What a judge's outcome tells of the bottom of the pile that it was opened on, whatever relays the records came through.
-use Rattle.std.specs.Prelude.{◌≡◌, ℕ, ◌<◌, min, List, reverse, length, Some, Option}
+use Rattle.std.specs.Prelude.{◌≡◌, ℕ, ◌<◌, min, reverse, length, Some, Option}
 use Rattle.record.specs.declared.causes.Damage.{Damage}
 use Rattle.record.specs.Ending.{clean, damaged}
 use Rattle.model.specs.declared.reasons.Reason.{Reason}

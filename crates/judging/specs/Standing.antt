@@ -1,13 +1,12 @@
 -- Where a judge stands, and what each call makes of that.
-use Rattle.std.specs.Prelude.{◌≡◌, ℕ, zero, suc, ◌-◌, ◌<◌, List, [], ◌∷◌, ◌++◌, reverse, length, Some, None, Option}
+use Rattle.std.specs.Prelude.{ℕ, zero, suc, List, [], ◌∷◌, Some, None, Option}
 use Rattle.record.specs.declared.kinds.Record.{Record}
 use Rattle.record.specs.WellMade.{thread_of}
-use Rattle.record.specs.Ending.{Ending}
 use Rattle.model.specs.declared.reasons.Reason.{Reason}
 use Rattle.model.specs.declared.outcomes.Outcome.{Outcome}
 use Rattle.model.specs.declared.outcomes.Outcome.TheVariants.{Unlawful}
 use Rattle.model.specs.Events.{count_of}
-use Rattle.model.specs.Lawful.{verdict, outcome_of, outcome}
+use Rattle.model.specs.Lawful.{verdict, outcome_of}
 use Rattle.model.specs.Laws.{by_axioms}
 use Rattle.feed.specs.Meaning.{Meaning}
 

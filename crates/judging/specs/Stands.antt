@@ -1,5 +1,5 @@
 -- What a judge's feed, book and outcome say of where it stands.
-use Rattle.std.specs.Prelude.{◌≡◌, ℕ, List, [], ◌∷◌, Some, None, Ok, Err, Option, Result}
+use Rattle.std.specs.Prelude.{◌≡◌, ◌∷◌, Some, None, Ok, Err, Option, Result}
 use Rattle.record.specs.declared.kinds.Record.{Record}
 use Rattle.model.specs.declared.outcomes.Outcome.{Outcome}
 use Rattle.model.specs.declared.outcomes.Outcome.TheVariants.{Compliant}

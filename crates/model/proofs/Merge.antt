@@ -1,5 +1,5 @@
 -- The merge rule: a thread's verdicts follow from the threads' own accounts alone.
-use Rattle.std.proofs.Common.{◌≡◌, ℕ, suc, ◌+◌, ◌≤◌, Bool, true, false, cond, not, ◌&&◌, eqb, ltb, List, [], ◌∷◌, ◌++◌, length, Some, None, Option, sym, refl, ap, ◌∙◌, subst, append_assoc, append-nil, arith, length-append, eq-eqb, eqb-true}
+use Rattle.std.proofs.Common.{◌≡◌, ℕ, suc, ◌≤◌, Bool, true, false, cond, not, ◌&&◌, eqb, ltb, List, [], ◌∷◌, ◌++◌, length, Some, None, Option, sym, refl, ap, ◌∙◌, subst, append_assoc, append-nil, arith, length-append, eq-eqb, eqb-true}
 use Rattle.record.specs.declared.kinds.Source.{Source}
 use Rattle.record.specs.declared.kinds.Source.TheVariants.{Initial, Write as WriteOf}
 use Rattle.record.specs.declared.kinds.Record.{Record}

@@ -1,5 +1,5 @@
 -- Verdicts do not go by the names of threads and addresses.
-use Rattle.std.proofs.Common.{◌≡◌, ℕ, zero, suc, ◌+◌, ◌-◌, ◌<◌, ◌≤◌, Bool, true, false, cond, not, ◌&&◌, ◌||◌, eqb, ltb, leb, ◌⊎◌, List, [], ◌∷◌, ◌++◌, map, length, Some, None, Option, sym, refl, ap, ◌∙◌, ⊎_elim, not-suc-le-zero, arith, eq-eqb, eqb-true}
+use Rattle.std.proofs.Common.{◌≡◌, ℕ, zero, suc, ◌-◌, ◌<◌, ◌≤◌, Bool, true, false, cond, not, ◌&&◌, ◌||◌, eqb, ltb, leb, List, [], ◌∷◌, ◌++◌, map, length, Some, None, Option, sym, refl, ap, ◌∙◌, ⊎_elim, not-suc-le-zero, arith, eq-eqb, eqb-true}
 use mathlib.Core.Bool.{false≢true}
 use mathlib.Core.List.{map-append}
 use lib.ListN.{length-map}
@@ -13,7 +13,7 @@ use Rattle.record.specs.declared.kinds.Record.TheVariants.{Write, Read, Fence, N
 use Rattle.record.specs.WellMade.{thread_of}
 use Rattle.model.specs.declared.reasons.Reason.TheVariants.{TooManyRecords, NotWrittenYet, OtherAddress, OtherValue, OwnLaterWrite, Overwritten, InitialGone, NotifyOutOfTurn, WaitOutOfTurn, NotifyMissing, OtherLabel}
 use Rattle.model.specs.Places.{at_place, is_at, any_below, any_of, how_many, one_further, place_of, missing, stands_where, oldest_first}
-use Rattle.model.specs.Events.{kind_of, is_act, is_act_kind, Edition, Law, is_event, is_strict, is_write, is_notify, is_wait, is_write_to, address_of, value_of, label_of, records_of, count_of, acts_of, source_in, names, observed, precedes, covered, overwritten, covered_to, written_to, written_behind}
+use Rattle.model.specs.Events.{kind_of, is_act, is_act_kind, Edition, Law, is_event, is_strict, is_write, is_notify, is_wait, is_write_to, address_of, value_of, label_of, count_of, acts_of, source_in, names, observed, precedes, covered, overwritten, covered_to, written_to, written_behind}
 use Rattle.model.specs.Lawful.{Before, ◌when◌, read_reasons, kind_reasons, reasons_of, first_applying, verdict, found_as}
 use Rattle.model.specs.Renamed.{Renaming, source_renamed, renamed, RenamingRule}
 use Rattle.model.proofs.Places.{any_same}

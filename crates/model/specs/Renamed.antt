@@ -1,5 +1,5 @@
 -- Threads and addresses under other names.
-use Rattle.std.specs.Prelude.{◌≡◌, ℕ, ◌<◌, List, [], ◌∷◌, map, Ok}
+use Rattle.std.specs.Prelude.{◌≡◌, ℕ, ◌<◌, List, map}
 use Rattle.record.specs.declared.kinds.Counts.{Counts}
 use Rattle.record.specs.declared.kinds.Source.{Source}
 use Rattle.record.specs.declared.kinds.Source.TheVariants.{Initial, Write as WriteOf}

@@ -1,5 +1,5 @@
 -- What a feed delivers is well made, so its address fits a byte.
-use Rattle.std.proofs.Common.{◌≡◌, ℕ, ◌≤◌, Some, Ok, subst, arith}
+use Rattle.std.proofs.Common.{◌≡◌, ◌≤◌, Some, Ok, subst, arith}
 use Rattle.record.specs.declared.kinds.Counts.{Counts}
 use Rattle.record.specs.declared.kinds.Record.{Record}
 use Rattle.record.specs.declared.kinds.Record.TheVariants.{Write, Read, Fence, Notify, Wait}

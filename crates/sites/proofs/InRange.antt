@@ -1,5 +1,5 @@
 -- A trace's counts are those of renamings.
-use Rattle.std.proofs.Common.{◌≡◌, ℕ, ◌≤◌, true, ◌&&◌, sym, refl, ap, ◌∙◌, subst, arith, le-leb}
+use Rattle.std.proofs.Common.{◌≡◌, ℕ, ◌≤◌, true, ◌&&◌, ap, ◌∙◌, arith, le-leb}
 use Rattle.record.specs.declared.kinds.Counts.{Counts}
 use Rattle.feed.specs.Meaning.{CountsInRange}
 use Rattle.renaming.specs.Counts.{allowed}

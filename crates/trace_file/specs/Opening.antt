@@ -1,5 +1,5 @@
 -- Which bytes open as a trace file, and what they then mean.
-use Rattle.std.specs.Prelude.{◌≡◌, ℕ, ◌+◌, ◌-◌, ◌*◌, ◌/◌, min, max, Bool, true, false, cond, not, ◌&&◌, ◌||◌, List, map, length, take, drop, None, Ok, Err, Result, ◌==◌, nat_lt}
+use Rattle.std.specs.Prelude.{◌≡◌, ℕ, ◌-◌, ◌/◌, min, max, Bool, cond, ◌&&◌, ◌||◌, List, map, length, take, drop, None, Ok, Err, Result, ◌==◌, nat_lt}
 use Rattle.record.specs.declared.kinds.Counts.{Counts}
 use Rattle.record.specs.declared.kinds.Record.{Record}
 use Rattle.record.specs.declared.causes.Cause.{Cause}

@@ -1,5 +1,5 @@
 -- A file's meaning is well made, in whatever state it is read, and its damage is found there.
-use Rattle.std.specs.Prelude.{◌≡◌, ℕ, ◌-◌, ◌/◌, List, [], ◌∷◌, map, length, drop, None, Ok, Err, Result, refl}
+use Rattle.std.specs.Prelude.{◌≡◌, ℕ, ◌-◌, ◌/◌, List, [], ◌∷◌, length, drop, None, Ok, Err, Result, refl}
 use Rattle.std.proofs.Common.{arith}
 use Rattle.record.specs.declared.kinds.Counts.{Counts}
 use Rattle.record.specs.declared.kinds.Record.{Record}
@@ -8,7 +8,7 @@ use Rattle.record.specs.Reading.{decoded}
 use Rattle.record.proofs.Decoded.{decoded-is-well-made}
 use Rattle.feed.specs.Meaning.{CountsInRange, WellMade}
 use Rattle.feed.specs.Pile.{FoundHere}
-use Rattle.feed.specs.Delivery.{ReadWellMade, delivering-sound, delivering-found, ending_after}
+use Rattle.feed.specs.Delivery.{ReadWellMade, delivering-sound, delivering-found}
 use Rattle.trace_file.specs.Layout.{twelves}
 use Rattle.trace_file.specs.Opening.{read_as, in_range, file_meaning}
 

@@ -1,4 +1,4 @@
-use Rattle.std.proofs.Common.{◌≡◌, sym, refl, ap, ◌∙◌, subst}
+use Rattle.std.proofs.Common.{sym, refl, ap, ◌∙◌, subst}
 use Rattle.trace_file.specs.Laws.{all_appended, AllGranted}
 use Rattle.cases.proofs.Writing.{one_more, granted, finished}
 use Rattle.cases.proofs.judged.write_trace.Goals as goal

@@ -1,4 +1,4 @@
-use Rattle.std.proofs.Common.{◌≡◌, get_or, None, refl, subst}
+use Rattle.std.proofs.Common.{None, subst}
 use Rattle.judging.specs.At.{At}
 use Rattle.driving.specs.declared.calls.Call.TheVariants.{Step}
 use Rattle.driving.specs.declared.calls.Entry.{Entry}

@@ -1,4 +1,4 @@
-use Rattle.std.proofs.Common.{◌≡◌, [], ◌∷◌, get_or, Some, None, sym, ap, ◌∙◌, subst, rules}
+use Rattle.std.proofs.Common.{◌≡◌, [], ◌∷◌, get_or, Some, None, sym, ap, ◌∙◌, rules}
 use Rattle.judging.specs.Standing.{at_start}
 use Rattle.driving.specs.declared.calls.Call.TheVariants.{Step, Run}
 use Rattle.driving.specs.declared.calls.Answer.{Answer}

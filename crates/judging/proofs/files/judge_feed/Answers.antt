@@ -1,5 +1,4 @@
-use Rattle.std.proofs.Common.{◌≡◌, Ok, sym, ap, ◌∙◌, subst}
-use Rattle.judging.specs.Answers.{run_answer}
+use Rattle.std.proofs.Common.{Ok, sym, ap, ◌∙◌, subst}
 use Rattle.judging.specs.Standing.{at_start}
 use Rattle.judging.specs.Stands.{Stands}
 use Rattle.judging.proofs.Settling.{run-tells, run-no-budget, run-no-refusal}

@@ -1,4 +1,4 @@
-use Rattle.std.proofs.Common.{◌≡◌, ◌+◌, ◌≤◌, length, Some, sym, ap, ◌∙◌, arith, ltb-false, leb-true}
+use Rattle.std.proofs.Common.{◌+◌, ◌≤◌, length, Some, sym, ap, ◌∙◌, arith, ltb-false, leb-true}
 use Rattle.trace_file.proofs.Twelves.{twelve, slot-there}
 use Rattle.trace_file.proofs.reading.first_twelve.Goals as goal
 

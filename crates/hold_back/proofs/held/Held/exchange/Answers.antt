@@ -1,4 +1,4 @@
-use Rattle.std.proofs.Common.{◌≡◌, ◌∷◌, length, is_ok, ap, ◌∙◌, arith, length-take, rules}
+use Rattle.std.proofs.Common.{◌≡◌, ◌∷◌, length, is_ok, ap, ◌∙◌, arith, length-take}
 use Rattle.record.specs.WellMade.{checked}
 use Rattle.hold_back.specs.Holding.{queued}
 use Rattle.hold_back.proofs.held.Held.exchange.Goals as goal

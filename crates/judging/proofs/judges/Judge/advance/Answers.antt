@@ -1,4 +1,4 @@
-use Rattle.std.proofs.Common.{◌≡◌, Some, None, Ok, sym, ap, ◌∙◌, subst}
+use Rattle.std.proofs.Common.{Some, None, Ok, sym, ap, ◌∙◌, subst}
 use Rattle.model.specs.declared.outcomes.Outcome.TheVariants.{Compliant}
 use Rattle.book.specs.Kept.{Kept}
 use Rattle.judging.specs.Answers.{step_told}

@@ -1,4 +1,4 @@
-use Rattle.std.proofs.Common.{◌≡◌, Some, Ok, sym, refl, ◌∙◌, subst}
+use Rattle.std.proofs.Common.{Some, Ok, sym, refl, ◌∙◌, subst}
 use Rattle.feed.specs.Meaning.{Asked}
 use Rattle.judging.proofs.Drawing.{judged, indexed, drawn-lawful, drawn-unlawful}
 use Rattle.judging.proofs.judges.Judge.draw.Goals as goal

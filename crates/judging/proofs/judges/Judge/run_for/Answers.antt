@@ -1,4 +1,4 @@
-use Rattle.std.proofs.Common.{◌≡◌, true, is_some, None, sym, refl, ap, ◌∙◌, arith, rules}
+use Rattle.std.proofs.Common.{◌≡◌, true, is_some, None, refl, arith, rules}
 use Rattle.judging.proofs.Running.{taken_none, so-more, run_settled, run-used, run-refused}
 use Rattle.judging.proofs.judges.Judge.run_for.Goals as goal
 
