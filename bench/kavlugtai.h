@@ -3,7 +3,7 @@
  * Link libjudge_c.a, which `rt lib` in crates/judge_c writes to crates/judge_c/out/.
  * It calls nothing but memcpy and memset, keeps nothing between calls, and
  * allocates nothing, so any number of threads may call it at once. A call
- * takes about 180 KiB of stack.
+ * takes about 90 KiB of stack.
  */
 #ifndef KAVLUGTAI_H
 #define KAVLUGTAI_H
