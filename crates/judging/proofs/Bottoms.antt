@@ -5,9 +5,9 @@ use Rattle.record.specs.declared.kinds.Record.{Record}
 use Rattle.record.specs.declared.causes.Damage.{Damage}
 use Rattle.record.specs.Ending.{Ending, clean, damaged}
 use Rattle.model.specs.declared.outcomes.Outcome.{Outcome}
-use Rattle.model.specs.declared.outcomes.Outcome.TheVariants.{Compliant, Unlawful, Damaged}
+use Rattle.model.specs.declared.outcomes.Outcome.TheVariants.{Compliant, Damaged}
 use Rattle.model.specs.Laws.{by_axioms}
-use Rattle.model.specs.Lawful.{verdict_at, unlawful, outcome_of, outcome}
+use Rattle.model.specs.Lawful.{verdict_at, unlawful, outcome_of, unlawful_of, outcome}
 use Rattle.model.specs.Tells.{AllLawful, StopsAt, Told}
 use Rattle.model.proofs.Upto.{as_long, upto-rules}
 use Rattle.feed.specs.Meaning.{Meaning}
@@ -110,8 +110,8 @@ module _ (p : Pile) (w : Proper p) where
       settles = λ l. (_, sym stood ∙ settles (delivered p) n (omega (arith, as_many)));
       compliant = λ e. let t = tells.compliant (is-outcome Compliant e) in (ends-clean (bottom_of p).ending refl t.0, lawful-below t.1);
       only_compliant = λ o e q f. sym (is-outcome o e) ∙ (tells.all_lawful (lawful-above f) ∙ ap outcome_of (clean-above p q));
-      names_unlawful = λ t i k e. subst (λ T. verdict_at by_axioms T (thread_at_bottom p t) i (reverse (bottoms_records p)) ≡ unlawful k) (same-threads p) (tells.not_lawful t i k (is-outcome (Unlawful t i k) e));
-      names_first = λ t i k e. subst (λ T. StopsAt by_axioms T (thread_at_bottom p) (bottoms_records p) (delivered p).waiting t i) (same-threads p) (tells.stops t i k (is-outcome (Unlawful t i k) e));
+      names_unlawful = λ t i k e. subst (λ T. verdict_at by_axioms T (thread_at_bottom p t) i (reverse (bottoms_records p)) ≡ unlawful k) (same-threads p) (tells.not_lawful t i k (is-outcome (unlawful_of t i k) e));
+      names_first = λ t i k e. subst (λ T. StopsAt by_axioms T (thread_at_bottom p) (bottoms_records p) (delivered p).waiting t i) (same-threads p) (tells.stops t i k (is-outcome (unlawful_of t i k) e));
       damage = λ d e. let t = tells.damage d (is-outcome (Damaged d) e) in (lawful-below t.1, ends-damaged (bottom_of p).ending d refl t.0);
       only_damage = λ o d e q f. sym (is-outcome o e) ∙ (tells.all_lawful (lawful-above f) ∙ ap outcome_of (damaged-above p d w q));
     }

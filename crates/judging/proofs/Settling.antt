@@ -5,7 +5,7 @@ use Rattle.model.specs.declared.reasons.Reason.{Reason}
 use Rattle.model.specs.declared.outcomes.Outcome.{Outcome}
 use Rattle.model.specs.declared.outcomes.Outcome.TheVariants.{Compliant, Unlawful, Damaged}
 use Rattle.model.specs.Events.{count_of}
-use Rattle.model.specs.Lawful.{verdict, outcome_behind, outcome}
+use Rattle.model.specs.Lawful.{verdict, unlawful_of, outcome_behind, outcome}
 use Rattle.record.specs.WellMade.{thread_of}
 use Rattle.model.specs.Laws.{by_axioms}
 use Rattle.record.specs.declared.kinds.Counts.{Counts}
@@ -32,7 +32,7 @@ tells-from zero c xs e h l = absurd (not-suc-le-zero l)
 tells-from (suc n) c [] e h l = ap (λ s. s.told) (settled n c [] e h _)
 tells-from (suc n) c (x ∷ xs) e h l = go (verdict by_axioms c.threads h x) (tells-from n c xs e (x ∷ h) (le_of_suc-le-suc l))
   where
-    go : (v : Option Reason) → (advance_by n (stands c xs e (x ∷ h) None)).told ≡ Some (outcome_behind by_axioms c.threads (x ∷ h) xs e) → (advance_by n (after_record (stands c (x ∷ xs) e h None) x xs v)).told ≡ Some (elim v [ None ↦ outcome_behind by_axioms c.threads (x ∷ h) xs e | Some k ↦ Unlawful (thread_of x) (count_of (thread_of x) h) k ])
+    go : (v : Option Reason) → (advance_by n (stands c xs e (x ∷ h) None)).told ≡ Some (outcome_behind by_axioms c.threads (x ∷ h) xs e) → (advance_by n (after_record (stands c (x ∷ xs) e h None) x xs v)).told ≡ Some (elim v [ None ↦ outcome_behind by_axioms c.threads (x ∷ h) xs e | Some k ↦ unlawful_of (thread_of x) (count_of (thread_of x) h) k ])
     go None later = later
     go (Some k) later = ap (λ s. s.told) (settled n c xs e h _)
 
@@ -46,7 +46,7 @@ takes-from zero c xs e h l q = absurd (not-suc-le-zero l)
 takes-from (suc n) c [] e h l q = ap (λ s. length s.taken) (settled n c [] e h _) ∙ sym (add-zero (length h))
 takes-from (suc n) c (x ∷ xs) e h l q = go (verdict by_axioms c.threads h x) q (takes-from n c xs e (x ∷ h) (le_of_suc-le-suc l))
   where
-    go : (v : Option Reason) → elim v [ None ↦ outcome_behind by_axioms c.threads (x ∷ h) xs e | Some k ↦ Unlawful (thread_of x) (count_of (thread_of x) h) k ] ≡ Compliant → (outcome_behind by_axioms c.threads (x ∷ h) xs e ≡ Compliant → length (advance_by n (stands c xs e (x ∷ h) None)).taken ≡ length (x ∷ h) + length xs) → length (advance_by n (after_record (stands c (x ∷ xs) e h None) x xs v)).taken ≡ length h + length (x ∷ xs)
+    go : (v : Option Reason) → elim v [ None ↦ outcome_behind by_axioms c.threads (x ∷ h) xs e | Some k ↦ unlawful_of (thread_of x) (count_of (thread_of x) h) k ] ≡ Compliant → (outcome_behind by_axioms c.threads (x ∷ h) xs e ≡ Compliant → length (advance_by n (stands c xs e (x ∷ h) None)).taken ≡ length (x ∷ h) + length xs) → length (advance_by n (after_record (stands c (x ∷ xs) e h None) x xs v)).taken ≡ length h + length (x ∷ xs)
     go None q later = let k = later q in omega arith
     go (Some k) q later = absurd (let z : ◌≡◌ {A = ℕ} 0 1 = cc in let f : ⊥ = omega arith in f)
 
@@ -54,7 +54,7 @@ takes-from (suc n) c (x ∷ xs) e h l q = go (verdict by_axioms c.threads h x) q
 
 line_same : (o : Outcome) (n k : ℕ) → (o ≡ Compliant → n ≡ k) → outcome_line o n ≡ outcome_line o k
 line_same Compliant n k e = ap (λ j. outcome_line Compliant j) (e refl)
-line_same (Unlawful t i r) n k e = refl
+line_same (unlawful_of t i r) n k e = refl
 line_same (Damaged d) n k e = refl
 
 -- the run settles with the outcome of the list, and its tally is as the line has it

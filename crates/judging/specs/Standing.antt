@@ -4,9 +4,8 @@ use Rattle.record.specs.declared.kinds.Record.{Record}
 use Rattle.record.specs.WellMade.{thread_of}
 use Rattle.model.specs.declared.reasons.Reason.{Reason}
 use Rattle.model.specs.declared.outcomes.Outcome.{Outcome}
-use Rattle.model.specs.declared.outcomes.Outcome.TheVariants.{Unlawful}
 use Rattle.model.specs.Events.{count_of}
-use Rattle.model.specs.Lawful.{verdict, outcome_of}
+use Rattle.model.specs.Lawful.{verdict, outcome_of, unlawful_of}
 use Rattle.model.specs.Laws.{by_axioms}
 use Rattle.feed.specs.Meaning.{Meaning}
 
@@ -29,7 +28,7 @@ behind_first m xs = record { counts = m.counts; waiting = xs; ending = m.ending 
 -- the record x was asked for, and those behind it still wait: a lawful one is taken, and an unlawful one settles the trace
 abbrev pub after_record : Standing → Record → List Record → Option Reason → Standing
 after_record s x xs None = record { left = behind_first s.left xs; taken = x ∷ s.taken; told = None }
-after_record s x xs (Some k) = record { left = behind_first s.left xs; taken = s.taken; told = Some (Unlawful (thread_of x) (count_of (thread_of x) s.taken) k) }
+after_record s x xs (Some k) = record { left = behind_first s.left xs; taken = s.taken; told = Some (unlawful_of (thread_of x) (count_of (thread_of x) s.taken) k) }
 
 -- a record was asked for, where these wait
 abbrev pub after_asking : Standing → List Record → Standing

@@ -9,9 +9,10 @@ use Rattle.record.specs.WellMade.{thread_of}
 use Rattle.record.specs.Ending.{Ending, clean, damaged}
 use Rattle.model.specs.declared.reasons.Reason.{Reason}
 use Rattle.model.specs.declared.outcomes.Outcome.{Outcome}
+use Rattle.model.specs.declared.outcomes.UnlawfulRecord.{UnlawfulRecord}
 use Rattle.model.specs.declared.outcomes.Outcome.TheVariants.{Compliant, Unlawful, Damaged}
 use Rattle.model.specs.Events.{count_of, Law}
-use Rattle.model.specs.Lawful.{verdict, found_as, verdict_at, lawful, unlawful, absent, outcome_of, outcome_behind}
+use Rattle.model.specs.Lawful.{verdict, found_as, verdict_at, lawful, unlawful, absent, outcome_of, unlawful_of, outcome_behind}
 use Rattle.model.specs.Tells.{AllLawful, StopsAt, Told, unchanged, OutcomeTells}
 
 -- A record keeps its verdict as the list goes on --------------------------------------------------------------------
@@ -70,14 +71,14 @@ module _ (L : Law) (T : ℕ) where
     pub split : xs ≡ front ++ (what ∷ rest)
     pub said : verdict L T (reverse_aux front h) what ≡ Some reason
     pub before : AllLawful L T (reverse_aux front h)
-    pub comes-to : outcome_behind L T h xs e ≡ Unlawful (thread_of what) (count_of (thread_of what) (reverse_aux front h)) reason
+    pub comes-to : outcome_behind L T h xs e ≡ unlawful_of (thread_of what) (count_of (thread_of what) (reverse_aux front h)) reason
 
   abbrev Ended : Ending → List Record → List Record → Type 0
   Ended e xs h = AllLawful L T (reverse_aux xs h) × (outcome_behind L T h xs e ≡ outcome_of e)
 
   abbrev step : Ending → List Record → Record → List Record → Option Reason → Outcome
   step e h x xs None = outcome_behind L T (x ∷ h) xs e
-  step e h x xs (Some k) = Unlawful (thread_of x) (count_of (thread_of x) h) k
+  step e h x xs (Some k) = unlawful_of (thread_of x) (count_of (thread_of x) h) k
 
   ran : (e : Ending) (xs h : List Record) → AllLawful L T h → Ended e xs h ⊎ Stopped e xs h
   ran e [] h a = inl (a, refl)
@@ -112,7 +113,7 @@ module _ (L : Law) (T : ℕ) where
       ap (verdict_at L T u j) whole ∙ still-all u j (s.what ∷ s.rest) (reverse s.front) l ∙ s.before u j l,
     )
 
-  apart : (t i : ℕ) (k : Reason) (e : Ending) → outcome_of e ≡ Unlawful t i k → ⊥
+  apart : (t i : ℕ) (k : Reason) (e : Ending) → outcome_of e ≡ unlawful_of t i k → ⊥
   apart t i k clean q = let z : ◌≡◌ {A = ℕ} 0 1 = cc in omega arith
   apart t i k (damaged d) q = let z : ◌≡◌ {A = ℕ} 0 1 = cc in omega arith
 
@@ -127,13 +128,16 @@ module _ (L : Law) (T : ℕ) where
       same-damage : (a b : Damage) → Damaged a ≡ Damaged b → a ≡ b
       same-damage a b q = cc
 
-  same-three : (a b t i : ℕ) (c k : Reason) → Unlawful a b c ≡ Unlawful t i k → (a ≡ t) × (b ≡ i) × (c ≡ k)
-  same-three a b t i c k e = (cc, cc, cc)
+  same-three : (a b t i : ℕ) (c k : Reason) → unlawful_of a b c ≡ unlawful_of t i k → (a ≡ t) × (b ≡ i) × (c ≡ k)
+  same-three a b t i c k e = let r = same-record _ _ e in (ap (λ u. u.thread) r, ap (λ u. u.index) r, ap (λ u. u.reason) r)
+    where
+      same-record : (u v : UnlawfulRecord) → Unlawful u ≡ Unlawful v → u ≡ v
+      same-record u v q = cc
 
-  not-compliant : (t i : ℕ) (k : Reason) → Unlawful t i k ≡ Compliant → ⊥
+  not-compliant : (t i : ℕ) (k : Reason) → unlawful_of t i k ≡ Compliant → ⊥
   not-compliant t i k q = let z : ◌≡◌ {A = ℕ} 0 1 = cc in omega arith
 
-  not-damaged : (t i : ℕ) (k : Reason) (d : Damage) → Unlawful t i k ≡ Damaged d → ⊥
+  not-damaged : (t i : ℕ) (k : Reason) (d : Damage) → unlawful_of t i k ≡ Damaged d → ⊥
   not-damaged t i k d q = let z : ◌≡◌ {A = ℕ} 0 1 = cc in omega arith
 
   -- What is told of b, where each record of m has its verdict from b.
@@ -150,12 +154,12 @@ module _ (L : Law) (T : ℕ) where
       stops = λ t i k q. ⊎_elim (λ (n : Ended e m []). absurd (apart t i k e (sym n.1 ∙ q))) (λ (s : Stopped e m []). stops t i k s (sym s.comes-to ∙ q)) run;
     }
       where
-        stopped : (t i : ℕ) (k : Reason) (s : Stopped e m []) → Unlawful (thread_of s.what) (count_of (thread_of s.what) (reverse s.front)) s.reason ≡ Unlawful t i k → verdict_at L T (back t) i (reverse b) ≡ unlawful k
+        stopped : (t i : ℕ) (k : Reason) (s : Stopped e m []) → unlawful_of (thread_of s.what) (count_of (thread_of s.what) (reverse s.front)) s.reason ≡ unlawful_of t i k → verdict_at L T (back t) i (reverse b) ≡ unlawful k
         stopped t i k s q =
             let z = same-three _ _ t i s.reason k q in
             (λ j. verdict_at L T (back (sym z.0 j)) (sym z.1 j) (reverse b)) ∙ down (thread_of s.what) (count_of (thread_of s.what) (reverse s.front)) (stop-there e m s) ∙ stop-unlawful e m s ∙ ap unlawful z.2
 
-        stops : (t i : ℕ) (k : Reason) (s : Stopped e m []) → Unlawful (thread_of s.what) (count_of (thread_of s.what) (reverse s.front)) s.reason ≡ Unlawful t i k → StopsAt L T back b m t i
+        stops : (t i : ℕ) (k : Reason) (s : Stopped e m []) → unlawful_of (thread_of s.what) (count_of (thread_of s.what) (reverse s.front)) s.reason ≡ unlawful_of t i k → StopsAt L T back b m t i
         stops t i k s q =
             let z = same-three _ _ t i s.reason k q in
             record {

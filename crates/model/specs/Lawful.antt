@@ -115,10 +115,14 @@ abbrev pub outcome_of : Ending → Outcome
 outcome_of clean = Compliant
 outcome_of (damaged d) = Damaged d
 
+-- the outcome that names the record of thread t with index i, which is unlawful for the reason k
+abbrev pub unlawful_of : ℕ → ℕ → Reason → Outcome
+unlawful_of t i k = Unlawful (record { thread = t; index = i; reason = k })
+
 -- the outcome of the records xs, the oldest first, with the ending e, behind the history h of lawful ones
 abbrev pub outcome_behind : Law → ℕ → List Record → List Record → Ending → Outcome
 outcome_behind L T h [] e = outcome_of e
-outcome_behind L T h (x ∷ xs) e = elim (verdict L T h x) [ None ↦ outcome_behind L T (x ∷ h) xs e | Some k ↦ Unlawful (thread_of x) (count_of (thread_of x) h) k ]
+outcome_behind L T h (x ∷ xs) e = elim (verdict L T h x) [ None ↦ outcome_behind L T (x ∷ h) xs e | Some k ↦ unlawful_of (thread_of x) (count_of (thread_of x) h) k ]
 
 -- the outcome of a whole list, the oldest first, with its ending
 abbrev pub outcome : Law → ℕ → List Record → Ending → Outcome

@@ -8,8 +8,8 @@ use Rattle.record.specs.declared.causes.Damage.{Damage}
 use Rattle.record.specs.Ending.{clean, damaged}
 use Rattle.model.specs.declared.reasons.Reason.TheVariants.{TooManyRecords, NotWrittenYet, OtherAddress, OtherValue, OwnLaterWrite, Overwritten, InitialGone, NotifyOutOfTurn, WaitOutOfTurn, NotifyMissing, OtherLabel}
 use Rattle.model.specs.declared.outcomes.Outcome.{Outcome}
-use Rattle.model.specs.declared.outcomes.Outcome.TheVariants.{Compliant, Unlawful, Damaged}
-use Rattle.model.specs.Lawful.{verdict, Found, found_as, lawful, unlawful, outcome}
+use Rattle.model.specs.declared.outcomes.Outcome.TheVariants.{Compliant, Damaged}
+use Rattle.model.specs.Lawful.{verdict, Found, found_as, lawful, unlawful, unlawful_of, outcome}
 use Rattle.model.specs.Laws.{by_axioms}
 use Rattle.model.specs.HoldBack.{held_back}
 
@@ -75,34 +75,34 @@ HoldsBack d xs ys = held_back 0 d [] xs ≡ ys
 
 -- The traces that the rules are explained by.
 pub record Worked : Type 0 where
-  pub own_older_write : Gives 2 (write 0 p 1 ∷ write 0 p 2 ∷ read_of 0 p 0 1 ∷ []) (Unlawful 0 2 OwnLaterWrite)
-  pub overwritten_over_a_fence : Gives 2 (write 0 p 1 ∷ fence 0 ∷ write 0 p 2 ∷ read_of 1 p 0 2 ∷ read_of 1 p 0 1 ∷ []) (Unlawful 1 1 Overwritten)
+  pub own_older_write : Gives 2 (write 0 p 1 ∷ write 0 p 2 ∷ read_of 0 p 0 1 ∷ []) (unlawful_of 0 2 OwnLaterWrite)
+  pub overwritten_over_a_fence : Gives 2 (write 0 p 1 ∷ fence 0 ∷ write 0 p 2 ∷ read_of 1 p 0 2 ∷ read_of 1 p 0 1 ∷ []) (unlawful_of 1 1 Overwritten)
   pub relaxed_writes_unordered : Gives 2 (write 0 p 1 ∷ write 0 p 2 ∷ read_of 1 p 0 2 ∷ read_of 1 p 0 1 ∷ []) Compliant
   pub strict_writes_of_two_threads_unordered : Gives 3 (strict_write 0 p 1 ∷ strict_write 1 p 1 ∷ read_of 2 p 0 1 ∷ read_of 2 p 1 1 ∷ read_of 2 p 0 1 ∷ []) Compliant
-  pub all_observations_count : Gives 2 (write 0 p 1 ∷ fence 0 ∷ write 0 p 2 ∷ write 0 q 3 ∷ read_of 1 q 0 3 ∷ read_of 1 p 0 2 ∷ read_of 1 p 0 1 ∷ []) (Unlawful 1 2 Overwritten)
-  pub wait_observes_notify : Gives 2 (write 0 p 1 ∷ strict_write 0 p 2 ∷ notify 0 5 ∷ notify 1 5 ∷ wait 1 5 ∷ read_of 1 p 0 1 ∷ []) (Unlawful 1 2 Overwritten)
-  pub initial_gone_once_read : Gives 2 (write 0 p 1 ∷ read_of 1 p 0 1 ∷ read_initial 1 p ∷ []) (Unlawful 1 1 InitialGone)
+  pub all_observations_count : Gives 2 (write 0 p 1 ∷ fence 0 ∷ write 0 p 2 ∷ write 0 q 3 ∷ read_of 1 q 0 3 ∷ read_of 1 p 0 2 ∷ read_of 1 p 0 1 ∷ []) (unlawful_of 1 2 Overwritten)
+  pub wait_observes_notify : Gives 2 (write 0 p 1 ∷ strict_write 0 p 2 ∷ notify 0 5 ∷ notify 1 5 ∷ wait 1 5 ∷ read_of 1 p 0 1 ∷ []) (unlawful_of 1 2 Overwritten)
+  pub initial_gone_once_read : Gives 2 (write 0 p 1 ∷ read_of 1 p 0 1 ∷ read_initial 1 p ∷ []) (unlawful_of 1 1 InitialGone)
   pub initial_while_unobserved : Gives 2 (write 0 p 1 ∷ read_initial 1 p ∷ read_initial 1 p ∷ []) Compliant
-  pub wait_before_notify : Gives 2 (notify 0 5 ∷ wait 0 5 ∷ []) (Unlawful 0 1 NotifyMissing)
-  pub two_labels : Gives 2 (notify 0 5 ∷ notify 1 6 ∷ wait 0 5 ∷ []) (Unlawful 0 1 OtherLabel)
+  pub wait_before_notify : Gives 2 (notify 0 5 ∷ wait 0 5 ∷ []) (unlawful_of 0 1 NotifyMissing)
+  pub two_labels : Gives 2 (notify 0 5 ∷ notify 1 6 ∷ wait 0 5 ∷ []) (unlawful_of 0 1 OtherLabel)
   pub own_write_orders_no_others : Gives 2 (write 0 p 1 ∷ write 1 p 1 ∷ read_of 1 p 0 1 ∷ read_of 1 p 1 1 ∷ []) Compliant
 
 -- A thread has room for 512 records.
 pub record Room : Type 0 where
   pub just_full : Gives 1 (replicate 512 (fence 0)) Compliant
-  pub one_too_many : Gives 1 (replicate 513 (fence 0)) (Unlawful 0 512 TooManyRecords)
-  pub relaxed_reads_take_room : Gives 1 (replicate 513 (read_initial 0 p)) (Unlawful 0 512 TooManyRecords)
+  pub one_too_many : Gives 1 (replicate 513 (fence 0)) (unlawful_of 0 512 TooManyRecords)
+  pub relaxed_reads_take_room : Gives 1 (replicate 513 (read_initial 0 p)) (unlawful_of 0 512 TooManyRecords)
   pub each_thread_has_its_own : Gives 2 (replicate 512 (fence 0) ++ (fence 1 ∷ [])) Compliant
-  pub tested_first : Gives 2 (replicate 512 (fence 0) ++ (read_of 0 p 1 1 ∷ [])) (Unlawful 0 512 TooManyRecords)
+  pub tested_first : Gives 2 (replicate 512 (fence 0) ++ (read_of 0 p 1 1 ∷ [])) (unlawful_of 0 512 TooManyRecords)
 
 -- Which events precede which.
 pub record Precedence : Type 0 where
   pub strict_before_both_orders_nothing : Gives 2 (fence 0 ∷ write 0 p 1 ∷ write 0 p 2 ∷ read_of 1 p 0 2 ∷ read_of 1 p 0 1 ∷ []) Compliant
   pub strict_behind_both_orders_nothing : Gives 2 (write 0 p 1 ∷ write 0 p 2 ∷ fence 0 ∷ read_of 1 p 0 2 ∷ read_of 1 p 0 1 ∷ []) Compliant
-  pub strict_older_write_orders : Gives 2 (strict_write 0 p 1 ∷ write 0 p 2 ∷ read_of 1 p 0 2 ∷ read_of 1 p 0 1 ∷ []) (Unlawful 1 1 Overwritten)
-  pub strict_newer_write_orders : Gives 2 (write 0 p 1 ∷ strict_write 0 p 2 ∷ read_of 1 p 0 2 ∷ read_of 1 p 0 1 ∷ []) (Unlawful 1 1 Overwritten)
-  pub strict_read_orders : Gives 2 (write 0 p 1 ∷ strict_initial 0 q ∷ write 0 p 2 ∷ read_of 1 p 0 2 ∷ read_of 1 p 0 1 ∷ []) (Unlawful 1 1 Overwritten)
-  pub notify_orders : Gives 2 (write 0 p 1 ∷ notify 0 5 ∷ write 0 p 2 ∷ read_of 1 p 0 2 ∷ read_of 1 p 0 1 ∷ []) (Unlawful 1 1 Overwritten)
+  pub strict_older_write_orders : Gives 2 (strict_write 0 p 1 ∷ write 0 p 2 ∷ read_of 1 p 0 2 ∷ read_of 1 p 0 1 ∷ []) (unlawful_of 1 1 Overwritten)
+  pub strict_newer_write_orders : Gives 2 (write 0 p 1 ∷ strict_write 0 p 2 ∷ read_of 1 p 0 2 ∷ read_of 1 p 0 1 ∷ []) (unlawful_of 1 1 Overwritten)
+  pub strict_read_orders : Gives 2 (write 0 p 1 ∷ strict_initial 0 q ∷ write 0 p 2 ∷ read_of 1 p 0 2 ∷ read_of 1 p 0 1 ∷ []) (unlawful_of 1 1 Overwritten)
+  pub notify_orders : Gives 2 (write 0 p 1 ∷ notify 0 5 ∷ write 0 p 2 ∷ read_of 1 p 0 2 ∷ read_of 1 p 0 1 ∷ []) (unlawful_of 1 1 Overwritten)
   pub relaxed_read_orders_nothing : Gives 2 (write 0 p 1 ∷ read_initial 0 q ∷ write 0 p 2 ∷ read_of 1 p 0 2 ∷ read_of 1 p 0 1 ∷ []) Compliant
   pub wait_orders_nothing : Gives 2 (notify 0 5 ∷ notify 1 5 ∷ write 0 p 1 ∷ wait 0 5 ∷ write 0 p 2 ∷ read_of 1 p 0 2 ∷ read_of 1 p 0 1 ∷ []) Compliant
   pub other_threads_fence_orders_nothing : Gives 2 (write 0 p 1 ∷ fence 1 ∷ write 0 p 2 ∷ read_of 1 p 0 2 ∷ read_of 1 p 0 1 ∷ []) Compliant
@@ -112,15 +112,15 @@ pub record Precedence : Type 0 where
 pub record Observing : Type 0 where
   pub the_newer_one_may_follow : Gives 2 (write 0 p 1 ∷ fence 0 ∷ write 0 p 2 ∷ read_of 1 p 0 1 ∷ read_of 1 p 0 1 ∷ read_of 1 p 0 2 ∷ []) Compliant
   pub strict_write_read_twice : Gives 2 (strict_write 0 p 1 ∷ read_of 1 p 0 1 ∷ read_of 1 p 0 1 ∷ []) Compliant
-  pub older_observations_count : Gives 2 (write 0 p 1 ∷ fence 0 ∷ write 0 p 2 ∷ write 0 q 3 ∷ read_of 1 p 0 2 ∷ read_of 1 q 0 3 ∷ read_of 1 p 0 1 ∷ []) (Unlawful 1 2 Overwritten)
+  pub older_observations_count : Gives 2 (write 0 p 1 ∷ fence 0 ∷ write 0 p 2 ∷ write 0 q 3 ∷ read_of 1 p 0 2 ∷ read_of 1 q 0 3 ∷ read_of 1 p 0 1 ∷ []) (unlawful_of 1 2 Overwritten)
   pub others_observations_do_not_count : Gives 3 (write 0 p 1 ∷ fence 0 ∷ write 0 p 2 ∷ read_of 2 p 0 2 ∷ read_of 1 p 0 1 ∷ []) Compliant
   pub read_observes_its_writer_alone : Gives 3 (write 2 q 1 ∷ write 0 p 1 ∷ read_of 1 p 0 1 ∷ read_initial 1 q ∷ []) Compliant
   pub read_observes_the_write_it_names : Gives 2 (write 0 q 1 ∷ write 0 p 2 ∷ read_of 1 p 0 2 ∷ read_initial 1 q ∷ []) Compliant
-  pub what_precedes_is_covered : Gives 2 (write 0 p 1 ∷ fence 0 ∷ write 0 q 2 ∷ read_of 1 q 0 2 ∷ read_initial 1 p ∷ []) (Unlawful 1 1 InitialGone)
-  pub notify_covers_what_stands_before_it : Gives 2 (write 0 p 1 ∷ notify 0 5 ∷ notify 1 5 ∷ wait 1 5 ∷ read_initial 1 p ∷ []) (Unlawful 1 2 InitialGone)
+  pub what_precedes_is_covered : Gives 2 (write 0 p 1 ∷ fence 0 ∷ write 0 q 2 ∷ read_of 1 q 0 2 ∷ read_initial 1 p ∷ []) (unlawful_of 1 1 InitialGone)
+  pub notify_covers_what_stands_before_it : Gives 2 (write 0 p 1 ∷ notify 0 5 ∷ notify 1 5 ∷ wait 1 5 ∷ read_initial 1 p ∷ []) (unlawful_of 1 2 InitialGone)
   pub notify_overwrites_nothing : Gives 2 (write 0 p 1 ∷ notify 0 5 ∷ notify 1 5 ∷ wait 1 5 ∷ read_of 1 p 0 1 ∷ []) Compliant
   pub notify_covers_nothing_behind_it : Gives 2 (notify 0 5 ∷ write 0 p 1 ∷ notify 1 5 ∷ wait 1 5 ∷ read_initial 1 p ∷ []) Compliant
-  pub second_wait_observes_second_notify : Gives 2 (notify 0 5 ∷ notify 1 5 ∷ wait 0 5 ∷ wait 1 5 ∷ write 0 p 1 ∷ notify 0 5 ∷ notify 1 5 ∷ wait 1 5 ∷ read_initial 1 p ∷ []) (Unlawful 1 4 InitialGone)
+  pub second_wait_observes_second_notify : Gives 2 (notify 0 5 ∷ notify 1 5 ∷ wait 0 5 ∷ wait 1 5 ∷ write 0 p 1 ∷ notify 0 5 ∷ notify 1 5 ∷ wait 1 5 ∷ read_initial 1 p ∷ []) (unlawful_of 1 4 InitialGone)
   pub first_wait_observes_first_notify : Gives 2 (notify 0 5 ∷ notify 1 5 ∷ wait 0 5 ∷ write 0 p 1 ∷ notify 0 5 ∷ wait 1 5 ∷ read_initial 1 p ∷ []) Compliant
   pub other_address_overwrites_nothing : Gives 2 (write 0 p 1 ∷ strict_write 0 q 2 ∷ read_of 1 q 0 2 ∷ read_of 1 p 0 1 ∷ []) Compliant
   pub other_address_takes_no_initial_value : Gives 2 (write 0 q 1 ∷ read_of 1 q 0 1 ∷ read_initial 1 p ∷ []) Compliant
@@ -128,28 +128,28 @@ pub record Observing : Type 0 where
 
 -- Each reason by itself, and in its place among the others.
 pub record Reasons : Type 0 where
-  pub not_written_yet : Gives 2 (read_of 1 p 0 1 ∷ write 0 p 1 ∷ []) (Unlawful 1 0 NotWrittenYet)
-  pub not_written_by_that_thread : Gives 2 (write 1 p 1 ∷ read_of 1 p 0 1 ∷ []) (Unlawful 1 1 NotWrittenYet)
-  pub not_so_many_writes : Gives 2 (write 0 p 1 ∷ fence 0 ∷ read_of 1 p 0 2 ∷ []) (Unlawful 1 0 NotWrittenYet)
-  pub other_address : Gives 2 (write 0 p 1 ∷ read_of 1 q 0 1 ∷ []) (Unlawful 1 0 OtherAddress)
-  pub address_before_value : Gives 2 (write 0 p 1 ∷ read_value 1 q 0 1 2 ∷ []) (Unlawful 1 0 OtherAddress)
-  pub address_before_own_later_write : Gives 2 (write 0 p 1 ∷ write 0 q 2 ∷ read_of 0 q 0 1 ∷ []) (Unlawful 0 2 OtherAddress)
-  pub other_value : Gives 2 (write 0 p 1 ∷ read_value 1 p 0 1 2 ∷ []) (Unlawful 1 0 OtherValue)
-  pub value_before_own_later_write : Gives 2 (write 0 p 1 ∷ write 0 p 2 ∷ read_value 0 p 0 1 2 ∷ []) (Unlawful 0 2 OtherValue)
-  pub value_before_overwritten : Gives 2 (strict_write 0 p 1 ∷ write 0 p 2 ∷ read_of 1 p 0 2 ∷ read_value 1 p 0 1 2 ∷ []) (Unlawful 1 1 OtherValue)
-  pub initial_value_is_zero : Gives 2 (initial_value 1 p 1 ∷ []) (Unlawful 1 0 OtherValue)
-  pub value_before_initial_gone : Gives 2 (write 0 p 1 ∷ initial_value 0 p 1 ∷ []) (Unlawful 0 1 OtherValue)
+  pub not_written_yet : Gives 2 (read_of 1 p 0 1 ∷ write 0 p 1 ∷ []) (unlawful_of 1 0 NotWrittenYet)
+  pub not_written_by_that_thread : Gives 2 (write 1 p 1 ∷ read_of 1 p 0 1 ∷ []) (unlawful_of 1 1 NotWrittenYet)
+  pub not_so_many_writes : Gives 2 (write 0 p 1 ∷ fence 0 ∷ read_of 1 p 0 2 ∷ []) (unlawful_of 1 0 NotWrittenYet)
+  pub other_address : Gives 2 (write 0 p 1 ∷ read_of 1 q 0 1 ∷ []) (unlawful_of 1 0 OtherAddress)
+  pub address_before_value : Gives 2 (write 0 p 1 ∷ read_value 1 q 0 1 2 ∷ []) (unlawful_of 1 0 OtherAddress)
+  pub address_before_own_later_write : Gives 2 (write 0 p 1 ∷ write 0 q 2 ∷ read_of 0 q 0 1 ∷ []) (unlawful_of 0 2 OtherAddress)
+  pub other_value : Gives 2 (write 0 p 1 ∷ read_value 1 p 0 1 2 ∷ []) (unlawful_of 1 0 OtherValue)
+  pub value_before_own_later_write : Gives 2 (write 0 p 1 ∷ write 0 p 2 ∷ read_value 0 p 0 1 2 ∷ []) (unlawful_of 0 2 OtherValue)
+  pub value_before_overwritten : Gives 2 (strict_write 0 p 1 ∷ write 0 p 2 ∷ read_of 1 p 0 2 ∷ read_value 1 p 0 1 2 ∷ []) (unlawful_of 1 1 OtherValue)
+  pub initial_value_is_zero : Gives 2 (initial_value 1 p 1 ∷ []) (unlawful_of 1 0 OtherValue)
+  pub value_before_initial_gone : Gives 2 (write 0 p 1 ∷ initial_value 0 p 1 ∷ []) (unlawful_of 0 1 OtherValue)
   pub own_last_write : Gives 2 (write 0 p 1 ∷ write 0 p 2 ∷ read_of 0 p 0 2 ∷ []) Compliant
   pub own_write_to_another_address : Gives 2 (write 0 p 1 ∷ write 0 q 2 ∷ read_of 0 p 0 1 ∷ []) Compliant
-  pub own_write_takes_the_initial_value : Gives 2 (write 0 p 1 ∷ read_initial 0 p ∷ []) (Unlawful 0 1 InitialGone)
+  pub own_write_takes_the_initial_value : Gives 2 (write 0 p 1 ∷ read_initial 0 p ∷ []) (unlawful_of 0 1 InitialGone)
   pub own_write_leaves_another_initial_value : Gives 2 (write 0 q 1 ∷ read_initial 0 p ∷ []) Compliant
-  pub second_notify : Gives 2 (notify 0 5 ∷ notify 0 5 ∷ []) (Unlawful 0 1 NotifyOutOfTurn)
-  pub wait_without_notify : Gives 2 (wait 0 5 ∷ []) (Unlawful 0 0 WaitOutOfTurn)
-  pub second_wait : Gives 1 (notify 0 5 ∷ wait 0 5 ∷ wait 0 5 ∷ []) (Unlawful 0 2 WaitOutOfTurn)
+  pub second_notify : Gives 2 (notify 0 5 ∷ notify 0 5 ∷ []) (unlawful_of 0 1 NotifyOutOfTurn)
+  pub wait_without_notify : Gives 2 (wait 0 5 ∷ []) (unlawful_of 0 0 WaitOutOfTurn)
+  pub second_wait : Gives 1 (notify 0 5 ∷ wait 0 5 ∷ wait 0 5 ∷ []) (unlawful_of 0 2 WaitOutOfTurn)
   pub alone_nothing_is_missing : Gives 1 (notify 0 5 ∷ wait 0 5 ∷ notify 0 6 ∷ wait 0 6 ∷ []) Compliant
-  pub every_thread_is_waited_for : Gives 3 (notify 0 5 ∷ notify 1 5 ∷ wait 0 5 ∷ []) (Unlawful 0 1 NotifyMissing)
-  pub missing_before_other_label : Gives 2 (notify 0 6 ∷ wait 0 5 ∷ []) (Unlawful 0 1 NotifyMissing)
-  pub the_waiters_own_label : Gives 2 (notify 0 5 ∷ notify 1 6 ∷ wait 0 6 ∷ []) (Unlawful 0 1 OtherLabel)
+  pub every_thread_is_waited_for : Gives 3 (notify 0 5 ∷ notify 1 5 ∷ wait 0 5 ∷ []) (unlawful_of 0 1 NotifyMissing)
+  pub missing_before_other_label : Gives 2 (notify 0 6 ∷ wait 0 5 ∷ []) (unlawful_of 0 1 NotifyMissing)
+  pub the_waiters_own_label : Gives 2 (notify 0 5 ∷ notify 1 6 ∷ wait 0 6 ∷ []) (unlawful_of 0 1 OtherLabel)
   pub each_phase_has_its_label : Gives 2 (notify 0 5 ∷ notify 1 5 ∷ wait 0 5 ∷ wait 1 5 ∷ notify 0 6 ∷ notify 1 6 ∷ wait 1 6 ∷ wait 0 6 ∷ []) Compliant
 
 -- The verdict of every record, also behind unlawful ones.
@@ -165,7 +165,7 @@ pub record Behind : Type 0 where
 pub record Endings : Type 0 where
   pub nothing_at_all : Gives 1 [] Compliant
   pub damaged_behind_lawful_ones : (d : Damage) → outcome by_axioms 2 (write 0 p 1 ∷ read_of 1 p 0 1 ∷ []) (damaged d) ≡ Damaged d
-  pub unlawful_before_damaged : (d : Damage) → outcome by_axioms 2 (read_of 1 p 0 1 ∷ []) (damaged d) ≡ Unlawful 1 0 NotWrittenYet
+  pub unlawful_before_damaged : (d : Damage) → outcome by_axioms 2 (read_of 1 p 0 1 ∷ []) (damaged d) ≡ unlawful_of 1 0 NotWrittenYet
 
 -- What the hold-back relay makes of a list, with thread 0 held back.
 pub record Holding : Type 0 where

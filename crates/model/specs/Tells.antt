@@ -5,9 +5,9 @@ use Rattle.record.specs.declared.causes.Damage.{Damage}
 use Rattle.record.specs.WellMade.{thread_of}
 use Rattle.record.specs.Ending.{Ending, clean, damaged}
 use Rattle.model.specs.declared.reasons.Reason.{Reason}
-use Rattle.model.specs.declared.outcomes.Outcome.TheVariants.{Compliant, Unlawful, Damaged}
+use Rattle.model.specs.declared.outcomes.Outcome.TheVariants.{Compliant, Damaged}
 use Rattle.model.specs.Events.{count_of, Law}
-use Rattle.model.specs.Lawful.{verdict_at, lawful, unlawful, outcome_of, outcome}
+use Rattle.model.specs.Lawful.{verdict_at, lawful, unlawful, outcome_of, unlawful_of, outcome}
 
 -- each record of the list, the newest first, is lawful where it stands
 abbrev pub AllLawful : Law → ℕ → List Record → Type 0
@@ -28,8 +28,8 @@ pub record Told (L : Law) (T : ℕ) (back : ℕ → ℕ) (b m : List Record) (e 
   pub compliant : outcome L T m e ≡ Compliant → (e ≡ clean) × AllLawful L T (reverse b)
   pub damage : (d : Damage) → outcome L T m e ≡ Damaged d → (e ≡ damaged d) × AllLawful L T (reverse b)
   pub all_lawful : AllLawful L T (reverse b) → outcome L T m e ≡ outcome_of e
-  pub not_lawful : (t i : ℕ) (k : Reason) → outcome L T m e ≡ Unlawful t i k → verdict_at L T (back t) i (reverse b) ≡ unlawful k
-  pub stops : (t i : ℕ) (k : Reason) → outcome L T m e ≡ Unlawful t i k → StopsAt L T back b m t i
+  pub not_lawful : (t i : ℕ) (k : Reason) → outcome L T m e ≡ unlawful_of t i k → verdict_at L T (back t) i (reverse b) ≡ unlawful k
+  pub stops : (t i : ℕ) (k : Reason) → outcome L T m e ≡ unlawful_of t i k → StopsAt L T back b m t i
 
 -- the number itself: no thread, or no address, under another name
 abbrev pub unchanged : ℕ → ℕ

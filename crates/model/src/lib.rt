@@ -11,5 +11,5 @@ pub use laws::{
     alike_up_to_renaming, holding_back_keeps_accounts, merge_rule, outcome_tells,
     ranks_order_events, renaming_keeps_verdicts, table_of_traces,
 };
-pub use outcomes::Outcome;
+pub use outcomes::{Outcome, UnlawfulRecord};
 pub use reasons::Reason;

@@ -7,27 +7,27 @@ ghost use Rattle.model.specs.Lawful.{reason_number};
 #[derive(Clone, Copy, PartialEq, Eq, Debug)]
 pub enum Reason {
     /// Its thread already has 512 records.
-    TooManyRecords,
+    TooManyRecords = 1,
     /// A read names a write that does not stand earlier.
-    NotWrittenYet,
+    NotWrittenYet = 2,
     /// The write that a read names has another address.
-    OtherAddress,
+    OtherAddress = 3,
     /// The value read is not the named write's, or for the initial value is not 0.
-    OtherValue,
+    OtherValue = 4,
     /// A read names its own thread's write, and a later own write to that address stands earlier than the read.
-    OwnLaterWrite,
+    OwnLaterWrite = 5,
     /// A read names another thread's write that is overwritten for it.
-    Overwritten,
+    Overwritten = 6,
     /// A read names the initial value, and its thread has written there or another thread's write there is covered for it.
-    InitialGone,
+    InitialGone = 7,
     /// A notify, where its thread's earlier notifies and waits differ in number.
-    NotifyOutOfTurn,
+    NotifyOutOfTurn = 8,
     /// A wait, where its thread has not exactly one notify more than waits before it.
-    WaitOutOfTurn,
+    WaitOutOfTurn = 9,
     /// A wait, where another thread's notify of the same phase does not stand earlier.
-    NotifyMissing,
+    NotifyMissing = 10,
     /// A wait, where some thread's notify of the same phase has another label.
-    OtherLabel,
+    OtherLabel = 11,
 }
 
 impl Reason {
@@ -35,18 +35,6 @@ impl Reason {
     pub fn number(self) -> u8
         ensures { result ≡ reason_number self }
     {
-        match self {
-            Reason::TooManyRecords => 1,
-            Reason::NotWrittenYet => 2,
-            Reason::OtherAddress => 3,
-            Reason::OtherValue => 4,
-            Reason::OwnLaterWrite => 5,
-            Reason::Overwritten => 6,
-            Reason::InitialGone => 7,
-            Reason::NotifyOutOfTurn => 8,
-            Reason::WaitOutOfTurn => 9,
-            Reason::NotifyMissing => 10,
-            Reason::OtherLabel => 11,
-        }
+        self as u8
     }
 }

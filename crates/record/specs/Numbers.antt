@@ -1,7 +1,9 @@
 -- The numbers by which files and answers name each case.
-use Rattle.std.specs.Prelude.{ℕ}
+use Rattle.std.specs.Prelude.{ℕ, cond, Ok, Err, Result, ◌==◌}
 use Rattle.record.specs.declared.kinds.Mode.{Mode}
 use Rattle.record.specs.declared.kinds.Mode.TheVariants.{Relaxed, Strict}
+use Rattle.record.specs.declared.kinds.Kind.{Kind}
+use Rattle.record.specs.declared.kinds.Kind.TheVariants.{Write as AWrite, Read as ARead, Fence as AFence, Notify as ANotify, Wait as AWait}
 use Rattle.record.specs.declared.kinds.Source.{Source}
 use Rattle.record.specs.declared.kinds.Source.TheVariants.{Initial, Write as WriteOf}
 use Rattle.record.specs.declared.kinds.Record.{Record}
@@ -16,9 +18,18 @@ kind_number (Fence f) = 3
 kind_number (Notify n) = 4
 kind_number (Wait w) = 5
 
+-- the kind that a number names, if it names one
+abbrev pub kind_named : ℕ → Result Kind Cause
+kind_named n =
+    cond (n == 1) (Ok AWrite) (cond (n == 2) (Ok ARead) (cond (n == 3) (Ok AFence) (cond (n == 4) (Ok ANotify) (cond (n == 5) (Ok AWait) (Err UnknownKind)))))
+
 abbrev pub mode_number : Mode → ℕ
 mode_number Relaxed = 0
 mode_number Strict = 1
+
+-- the mode that a number names, if it names one
+abbrev pub mode_named : ℕ → Result Mode Cause
+mode_named m = cond (m == 0) (Ok Relaxed) (cond (m == 1) (Ok Strict) (Err UnknownMode))
 
 -- a read's writer field: 255 stands for the initial value
 abbrev pub source_writer : Source → ℕ

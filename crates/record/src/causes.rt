@@ -7,17 +7,17 @@ ghost use Rattle.record.specs.Numbers.{cause_number};
 #[derive(Clone, Copy, PartialEq, Eq, Debug)]
 pub enum Cause {
     /// The kind is not 1 to 5.
-    UnknownKind,
+    UnknownKind = 1,
     /// The thread is not below the number of threads, or is not the log's own.
-    WrongThread,
+    WrongThread = 2,
     /// The address of a write or read is not below the number of addresses.
-    UnknownAddress,
+    UnknownAddress = 3,
     /// The mode of a write or read is neither relaxed nor strict.
-    UnknownMode,
+    UnknownMode = 4,
     /// A read names neither the initial value nor a write that some thread can have made.
-    UnknownSource,
+    UnknownSource = 5,
     /// A field that the kind does not use is not zero.
-    UnusedNotZero,
+    UnusedNotZero = 6,
 }
 
 impl Cause {
@@ -25,14 +25,7 @@ impl Cause {
     pub fn number(self) -> u8
         ensures { result ≡ cause_number self }
     {
-        match self {
-            Cause::UnknownKind => 1,
-            Cause::WrongThread => 2,
-            Cause::UnknownAddress => 3,
-            Cause::UnknownMode => 4,
-            Cause::UnknownSource => 5,
-            Cause::UnusedNotZero => 6,
-        }
+        self as u8
     }
 }
 

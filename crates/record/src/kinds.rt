@@ -1,7 +1,10 @@
 //! What a record says: which thread did what.
 
 ghost use Rattle.std.specs.Prelude.{◌≡◌};
+ghost use Rattle.record.specs.Numbers.{kind_named, mode_named};
 ghost use Rattle.record.specs.WellMade.{thread_of};
+
+use crate::causes::Cause;
 
 /// What a write stores and a read returns.
 pub type Value = u32;
@@ -16,10 +19,52 @@ pub struct Counts {
     pub addresses: u8,
 }
 
+/// How a write or read is ordered with what its thread does beside it.
 #[derive(Clone, Copy, PartialEq, Eq, Debug)]
 pub enum Mode {
-    Relaxed,
-    Strict,
+    Relaxed = 0,
+    Strict = 1,
+}
+
+impl TryFrom<u8> for Mode {
+    type Error = Cause;
+
+    ghost try_from_gives = { λ n r. r ≡ mode_named n };
+
+    fn try_from(number: u8) -> Result<Mode, Cause> {
+        match number {
+            0 => Ok(Mode::Relaxed),
+            1 => Ok(Mode::Strict),
+            _ => Err(Cause::UnknownMode),
+        }
+    }
+}
+
+/// What a thread did, whatever with: a record's first byte.
+#[derive(Clone, Copy)]
+pub(crate) enum Kind {
+    Write = 1,
+    Read = 2,
+    Fence = 3,
+    Notify = 4,
+    Wait = 5,
+}
+
+impl TryFrom<u8> for Kind {
+    type Error = Cause;
+
+    ghost try_from_gives = { λ n r. r ≡ kind_named n };
+
+    fn try_from(number: u8) -> Result<Kind, Cause> {
+        match number {
+            1 => Ok(Kind::Write),
+            2 => Ok(Kind::Read),
+            3 => Ok(Kind::Fence),
+            4 => Ok(Kind::Notify),
+            5 => Ok(Kind::Wait),
+            _ => Err(Cause::UnknownKind),
+        }
+    }
 }
 
 /// Where the value of a read comes from.

@@ -19,10 +19,11 @@ pub struct Fields {
 }
 
 impl Fields {
-    pub fn read(bytes: &[u8; 12]) -> Fields
-        ensures { result ≡ fields_of bytes.now }
+    /// The fields that the bytes hold.
+    pub fn from_be_bytes(bytes: [u8; 12]) -> Fields
+        ensures { result ≡ fields_of bytes }
     {
-        let [kind, thread, a0, a1, writer, mode, n0, n1, v0, v1, v2, v3] = *bytes;
+        let [kind, thread, a0, a1, writer, mode, n0, n1, v0, v1, v2, v3] = bytes;
         Fields {
             kind,
             thread,
@@ -34,7 +35,8 @@ impl Fields {
         }
     }
 
-    pub fn bytes(self) -> [u8; 12]
+    /// The bytes that hold the fields.
+    pub fn to_be_bytes(self) -> [u8; 12]
         ensures { result ≡ bytes_for self }
     {
         let [a0, a1] = self.address.to_be_bytes();
