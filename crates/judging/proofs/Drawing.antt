@@ -6,17 +6,14 @@ use Rattle.record.specs.WellMade.{thread_of, checked, AllWellMade}
 use Rattle.model.specs.declared.reasons.Reason.{Reason}
 use Rattle.model.specs.declared.outcomes.Outcome.{Outcome}
 use Rattle.model.specs.Events.{count_of}
-use Rattle.model.specs.Lawful.{verdict}
+use Rattle.model.specs.Lawful.{verdict, unlawful_of}
 use Rattle.model.specs.Laws.{by_axioms}
 use Rattle.feed.specs.Meaning.{Meaning, Asked, WellMade}
 use Rattle.book.specs.declared.book.Book.{Book}
 use Rattle.book.specs.Kept.{Kept, WellMadeIn}
 use Rattle.judging.specs.declared.faults.Fault.TheVariants.{Unlawful}
-use Rattle.judging.specs.declared.answers.StepAnswer.TheVariants.{Taken, Settled}
-use Rattle.judging.specs.Faults.{fault_outcome}
 use Rattle.judging.specs.Standing.{Standing, behind_first, after_record, after_asking, step_under, advance}
 use Rattle.judging.specs.Stands.{Stands, Drawn}
-use Rattle.judging.specs.Answers.{step_told}
 
 -- where a judge stands whose feed means m
 abbrev with-left : Standing → Meaning → Standing
@@ -60,9 +57,9 @@ module _ (m n : Meaning) (x : Record) (a : Asked m (Ok (Some x)) n) where
     subst (λ l. WellMadeIn l.counts.threads x) (sym st.left_is) (first-well-made m n x w a.0),
   )
 
-  pub drawn-unlawful : (b : Book) (told : Option Outcome) (s : Standing) (k : Reason) (t i : ℕ) → Stands m b told s → verdict by_axioms m.counts.threads s.taken x ≡ Some k → t ≡ thread_of x → i ≡ count_of (thread_of x) s.taken → Drawn s (Err (Unlawful t i k)) n
+  pub drawn-unlawful : (b : Book) (told : Option Outcome) (s : Standing) (k : Reason) (t i : ℕ) → Stands m b told s → verdict by_axioms m.counts.threads s.taken x ≡ Some k → t ≡ thread_of x → i ≡ count_of (thread_of x) s.taken → Drawn s (Err (Unlawful (record { thread = t; index = i; reason = k }))) n
   drawn-unlawful b told s k t i st q et ei = (
-    asked s st.left_is (Some k) q ∙ (λ j. record { left = behind j; taken = s.taken; told = Some (fault_outcome (Unlawful (sym et j) (sym ei j) k)) }),
+    asked s st.left_is (Some k) q ∙ (λ j. record { left = behind j; taken = s.taken; told = Some (unlawful_of (sym et j) (sym ei j) k) }),
     a.1 ∙ sym (ap (λ l. l.counts) st.left_is),
   )
 
@@ -74,24 +71,24 @@ stepped s t told e o q = ap (λ k. step_under k s) (e ∙ o) ∙ q
 
 pub went_on : (m n : Meaning) (b b' : Book) (told : Option Outcome) (x : Record) (c : Counts) → told ≡ None → c ≡ n.counts
     → ((h : List Record) → Kept c.threads b h → WellMadeIn c.threads x → verdict by_axioms c.threads h x ≡ None → Kept c.threads b' (x ∷ h))
-    → ((s : Standing) → Stands m b told s → Drawn s (Ok (Some x)) n) → (s : Standing) → Stands m b told s → (Taken ≡ step_told (advance s).told) × Stands n b' told (advance s)
+    → ((s : Standing) → Stands m b told s → Drawn s (Ok (Some x)) n) → (s : Standing) → Stands m b told s → (None ≡ (advance s).told) × Stands n b' told (advance s)
 went_on m n b b' told x c o ec keeps drawn s st =
     let d = drawn s st in
     let p = stepped s (record { left = n; taken = x ∷ s.taken; told = None }) told st.told_is o d.0 in
     let T : s.left.counts.threads ≡ c.threads = ap (λ k. k.threads) (sym d.1 ∙ sym ec) in
     let left : m.counts.threads ≡ s.left.counts.threads = ap (λ l. l.counts.threads) (sym st.left_is) in
     let k : Kept c.threads b' (x ∷ s.taken) = keeps s.taken (subst (λ t. Kept t b s.taken) (left ∙ T) st.keeps) (subst (λ t. WellMadeIn t x) T d.3) (subst (λ t. verdict by_axioms t s.taken x ≡ None) T d.2) in (
-      sym (ap (λ k. step_told k.told) p),
+      sym (ap (λ k. k.told) p),
       subst (Stands n b' told) (sym p) (record { left_is = refl; told_is = sym o; keeps = subst (λ g. Kept g.threads b' (x ∷ s.taken)) ec k }),
     )
 
 pub settled-now : (m n : Meaning) (b b' : Book) (told told' : Option Outcome) (o : Outcome) → told ≡ None → b' ≡ b → told' ≡ Some o
     → ((s : Standing) → Stands m b told s → (after_asking s s.left.waiting ≡ record { left = n; taken = s.taken; told = Some o }) × (n.counts ≡ s.left.counts))
-    → (s : Standing) → Stands m b told s → (Settled o ≡ step_told (advance s).told) × Stands n b' told' (advance s)
+    → (s : Standing) → Stands m b told s → (Some o ≡ (advance s).told) × Stands n b' told' (advance s)
 settled-now m n b b' told told' o e eb et drawn s st =
     let d = drawn s st in
     let p = stepped s (record { left = n; taken = s.taken; told = Some o }) told st.told_is e d.0 in
     let T : m.counts.threads ≡ n.counts.threads = ap (λ l. l.counts.threads) (sym st.left_is) ∙ ap (λ k. k.threads) (sym d.1) in (
-      sym (ap (λ k. step_told k.told) p),
+      sym (ap (λ k. k.told) p),
       subst (Stands n b' told') (sym p) (record { left_is = refl; told_is = sym et; keeps = subst (λ g. Kept n.counts.threads g s.taken) (sym eb) (subst (λ t. Kept t b s.taken) T st.keeps) }),
     )

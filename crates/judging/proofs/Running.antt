@@ -1,5 +1,5 @@
 -- Steps one after the other.
-use Rattle.std.proofs.Common.{◌≡◌, ℕ, zero, suc, ◌+◌, ◌-◌, ◌<◌, ◌≤◌, true, List, [], ◌∷◌, length, is_some, Some, None, Ok, Err, Option, sym, refl, ap, ◌∙◌, subst, suc-add, zero-add, add-one, arith}
+use Rattle.std.proofs.Common.{◌≡◌, ℕ, zero, suc, ◌+◌, ◌-◌, ◌<◌, true, false, List, [], ◌∷◌, length, is_some, Some, None, Ok, Err, Option, sym, refl, ap, ◌∙◌, subst, suc-add, zero-add, add-one, arith}
 use Rattle.record.specs.declared.kinds.Record.{Record}
 use Rattle.model.specs.declared.reasons.Reason.{Reason}
 use Rattle.model.specs.declared.outcomes.Outcome.{Outcome}
@@ -8,11 +8,9 @@ use Rattle.model.specs.Laws.{by_axioms}
 use Rattle.feed.specs.declared.refusals.Refusal.TheVariants.{AlreadySettled}
 use Rattle.feed.specs.Meaning.{Meaning}
 use Rattle.book.specs.declared.book.Book.{Book}
-use Rattle.judging.specs.declared.answers.StepAnswer.TheVariants.{Taken, Settled}
-use Rattle.judging.specs.declared.answers.RunAnswer.TheVariants.{BudgetUsed, Settled as RunSettled}
 use Rattle.judging.specs.Standing.{Standing, after_record, after_asking, step_under, advance, advance_by}
 use Rattle.judging.specs.Stands.{Stands}
-use Rattle.judging.specs.Answers.{step_told, run_told, unless_settled, tally, run_answer}
+use Rattle.judging.specs.Answers.{run_told, unless_settled, tally, run_answer}
 
 pub stays : (n : ℕ) (s : Standing) (o : Outcome) → s.told ≡ Some o → advance_by n s ≡ s
 stays zero s o e = refl
@@ -24,14 +22,6 @@ split (suc n) k s = ap (λ m. advance_by m s) (suc-add n k) ∙ split n k (advan
 
 pub one_more : (n : ℕ) (s : Standing) → advance_by (n + 1) s ≡ advance (advance_by n s)
 one_more n s = split n 1 s
-
-pub taken_none : (t : Option Outcome) → Taken ≡ step_told t → t ≡ None
-taken_none None e = refl
-taken_none (Some o) e = absurd (let z : ◌≡◌ {A = ℕ} 0 1 = cc in let f : ⊥ = omega arith in f)
-
-pub settled-some : (t : Option Outcome) (o : Outcome) → Settled o ≡ step_told t → t ≡ Some o
-settled-some None o e = absurd (let z : ◌≡◌ {A = ℕ} 0 1 = cc in let f : ⊥ = omega arith in f)
-settled-some (Some p) o e = cc
 
 -- whether one more record was taken shows in whether an outcome was told
 counts-record : (s : Standing) (x : Record) (xs : List Record) (v : Option Reason) → ((after_record s x xs v).told ≡ None → length (after_record s x xs v).taken ≡ length s.taken + 1) × ((o : Outcome) → (after_record s x xs v).told ≡ Some o → length (after_record s x xs v).taken ≡ length s.taken)
@@ -58,39 +48,40 @@ took-none s o e q =
 abbrev pub So : Standing → ℕ → Meaning → Book → Option Outcome → Type 0
 So s n m b told = Stands m b told (advance_by n s) × (length (advance_by n s).taken ≡ length s.taken + n)
 
-pub so-more : (s : Standing) (n : ℕ) (m m' : Meaning) (b b' : Book) (told told' : Option Outcome) → told ≡ None → So s n m b told
-    → (Taken ≡ step_told (advance (advance_by n s)).told) × Stands m' b' told' (advance (advance_by n s)) → So s (n + 1) m' b' told'
-so-more s n m m' b b' told told' o i a =
+pub so-more : (s : Standing) (n : ℕ) (m m' : Meaning) (b b' : Book) (told told' r : Option Outcome) → told ≡ None → So s n m b told → is_some r ≡ false
+    → (r ≡ (advance (advance_by n s)).told) × Stands m' b' told' (advance (advance_by n s)) → So s (n + 1) m' b' told'
+so-more s n m m' b b' told told' None o i f a =
     let t = advance_by n s in
     let e = one_more n s in
-    let l = took t (i.0.told_is ∙ o) (taken_none (advance t).told a.0) in
+    let l = took t (i.0.told_is ∙ o) (sym a.0) in
     let k = i.1 in
     (subst (Stands m' b' told') (sym e) a.1, ap (λ u. length u.taken) e ∙ omega arith)
+so-more s n m m' b b' told told' (Some p) o i f a = absurd (let z : ◌≡◌ {A = ℕ} 0 1 = cc in let f : ⊥ = omega arith in f)
 
-answered : (s : Standing) (n : ℕ) (t : Standing) (told : Option Outcome) → s.told ≡ None → advance_by n s ≡ t → t.told ≡ told → run_answer n s ≡ Ok (run_told told (tally s t))
-answered s n t told o e q = ap (λ k. unless_settled k (run_told (advance_by n s).told (tally s (advance_by n s)))) o ∙ (ap (λ u. Ok (run_told u.told (tally s u))) e ∙ ap (λ k. Ok (run_told k (tally s t))) q)
+answered : (s : Standing) (n : ℕ) (t : Standing) (told : Option Outcome) → s.told ≡ None → advance_by n s ≡ t → t.told ≡ told → run_answer n s ≡ Ok (record { outcome = told; taken = tally s t })
+answered s n t told o e q = ap (λ k. unless_settled k (run_told s (advance_by n s))) o ∙ (ap (λ u. Ok (run_told s u)) e ∙ ap (λ k. Ok (record { outcome = k; taken = tally s t })) q)
 
-pub run_settled : (s : Standing) (n budget : ℕ) (m₀ m m' : Meaning) (b₀ b b' : Book) (told₀ told told' : Option Outcome) (o : Outcome) → told₀ ≡ None → Stands m₀ b₀ told₀ s → n < budget → told ≡ None → So s n m b told
-    → (Settled o ≡ step_told (advance (advance_by n s)).told) × Stands m' b' told' (advance (advance_by n s)) → (Ok (RunSettled o n) ≡ run_answer budget s) × Stands m' b' told' (advance_by budget s)
-run_settled s n budget m₀ m m' b₀ b b' told₀ told told' o e₀ st lt e i a =
+pub run_settled : (s : Standing) (n budget : ℕ) (m₀ m m' : Meaning) (b₀ b b' : Book) (told₀ told told' r : Option Outcome) → told₀ ≡ None → Stands m₀ b₀ told₀ s → n < budget → told ≡ None → So s n m b told → is_some r ≡ true
+    → (r ≡ (advance (advance_by n s)).told) × Stands m' b' told' (advance (advance_by n s)) → (Ok (record { outcome = r; taken = n }) ≡ run_answer budget s) × Stands m' b' told' (advance_by budget s)
+run_settled s n budget m₀ m m' b₀ b b' told₀ told told' None e₀ st lt e i q a = absurd (let z : ◌≡◌ {A = ℕ} 0 1 = cc in let f : ⊥ = omega arith in f)
+run_settled s n budget m₀ m m' b₀ b b' told₀ told told' (Some o) e₀ st lt e i q a =
     let t = advance_by n s in
-    let q : (advance t).told ≡ Some o = settled-some (advance t).told o a.0 in
+    let q : (advance t).told ≡ Some o = sym a.0 in
     let rest : budget ≡ n + suc (budget - (n + 1)) = omega arith in
     let whole : advance_by budget s ≡ advance t = ap (λ k. advance_by k s) rest ∙ (split n (suc (budget - (n + 1))) s ∙ stays (budget - (n + 1)) (advance t) o q) in
     let l = took-none t o (i.0.told_is ∙ e) q in
     let k = i.1 in
     let count : tally s (advance t) ≡ n = omega arith in (
-      sym (answered s budget (advance t) (Some o) (st.told_is ∙ e₀) whole q ∙ ap (λ j. Ok (RunSettled o j)) count),
+      sym (answered s budget (advance t) (Some o) (st.told_is ∙ e₀) whole q ∙ ap (λ j. Ok (record { outcome = Some o; taken = j })) count),
       subst (Stands m' b' told') (sym whole) a.1,
     )
 
-pub run-used : (s : Standing) (n budget : ℕ) (m₀ m : Meaning) (b₀ b : Book) (told₀ told : Option Outcome) → told₀ ≡ None → Stands m₀ b₀ told₀ s → budget ≤ n → n ≤ budget → told ≡ None → So s n m b told
-    → (Ok (BudgetUsed n) ≡ run_answer budget s) × Stands m b told (advance_by budget s)
-run-used s n budget m₀ m b₀ b told₀ told e₀ st l u e i =
-    let same : budget ≡ n = omega arith in
+pub run-used : (s : Standing) (n budget : ℕ) (m₀ m : Meaning) (b₀ b : Book) (told₀ told : Option Outcome) → told₀ ≡ None → Stands m₀ b₀ told₀ s → budget ≡ n → told ≡ None → So s n m b told
+    → (Ok (record { outcome = None; taken = budget }) ≡ run_answer budget s) × Stands m b told (advance_by budget s)
+run-used s n budget m₀ m b₀ b told₀ told e₀ st same e i =
     let k = i.1 in
-    let count : tally s (advance_by n s) ≡ n = omega arith in (
-      sym (ap (λ j. run_answer j s) same ∙ (answered s n (advance_by n s) None (st.told_is ∙ e₀) refl (i.0.told_is ∙ e) ∙ ap (λ j. Ok (BudgetUsed j)) count)),
+    let count : tally s (advance_by n s) ≡ budget = omega arith in (
+      sym (ap (λ j. run_answer j s) same ∙ (answered s n (advance_by n s) None (st.told_is ∙ e₀) refl (i.0.told_is ∙ e) ∙ ap (λ j. Ok (record { outcome = None; taken = j })) count)),
       subst (λ j. Stands m b told (advance_by j s)) (sym same) i.0,
     )
 
@@ -98,4 +89,4 @@ pub run-refused : (s : Standing) (budget : ℕ) (m : Meaning) (b : Book) (told :
 run-refused s budget m b None e st = absurd (let z : ◌≡◌ {A = ℕ} 0 1 = cc in let f : ⊥ = omega arith in f)
 run-refused s budget m b (Some o) e st =
     let q = st.told_is in
-    (sym (ap (λ k. unless_settled k (run_told (advance_by budget s).told (tally s (advance_by budget s)))) q), subst (Stands m b (Some o)) (sym (stays budget s o q)) st)
+    (sym (ap (λ k. unless_settled k (run_told s (advance_by budget s))) q), subst (Stands m b (Some o)) (sym (stays budget s o q)) st)

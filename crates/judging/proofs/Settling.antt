@@ -1,5 +1,5 @@
 -- A judge settles with the outcome of the list.
-use Rattle.std.proofs.Common.{◌≡◌, ℕ, zero, suc, ◌+◌, ◌<◌, List, [], ◌∷◌, length, Some, None, Ok, Err, Option, Result, sym, refl, ap, ◌∙◌, le_of_suc-le-suc, not-suc-le-zero, add-zero, arith}
+use Rattle.std.proofs.Common.{◌≡◌, ℕ, zero, suc, ◌+◌, ◌<◌, List, [], ◌∷◌, length, Some, None, Ok, Option, Result, sym, refl, ap, ◌∙◌, le_of_suc-le-suc, not-suc-le-zero, add-zero, arith}
 use Rattle.record.specs.declared.kinds.Record.{Record}
 use Rattle.model.specs.declared.reasons.Reason.{Reason}
 use Rattle.model.specs.declared.outcomes.Outcome.{Outcome}
@@ -12,10 +12,9 @@ use Rattle.record.specs.declared.kinds.Counts.{Counts}
 use Rattle.record.specs.Ending.{Ending}
 use Rattle.feed.specs.Meaning.{Meaning}
 use Rattle.judging.specs.Standing.{Standing, at_start, advance_by, after_record}
-use Rattle.judging.specs.Answers.{run_told, tally, run_answer}
+use Rattle.judging.specs.Answers.{tally, run_answer}
 use Rattle.judging.specs.Lines.{outcome_line}
 use Rattle.judging.specs.declared.answers.RunAnswer.{RunAnswer}
-use Rattle.judging.specs.declared.answers.RunAnswer.TheVariants.{BudgetUsed, Settled as RunSettled}
 use Rattle.feed.specs.declared.refusals.Refusal.{Refusal}
 
 abbrev stands : Counts → List Record → Ending → List Record → Option Outcome → Standing
@@ -54,24 +53,29 @@ takes-from (suc n) c (x ∷ xs) e h l q = go (verdict by_axioms c.threads h x) q
 
 line_same : (o : Outcome) (n k : ℕ) → (o ≡ Compliant → n ≡ k) → outcome_line o n ≡ outcome_line o k
 line_same Compliant n k e = ap (λ j. outcome_line Compliant j) (e refl)
-line_same (unlawful_of t i r) n k e = refl
+line_same (Unlawful u) n k e = refl
 line_same (Damaged d) n k e = refl
 
--- the run settles with the outcome of the list, and its tally is as the line has it
-pub run-tells : (m : Meaning) (n : ℕ) (o : Outcome) (k : ℕ) → length m.waiting < n → Ok (RunSettled o k) ≡ run_answer n (at_start m) → outcome_line o k ≡ outcome_line (outcome by_axioms m.counts.threads m.waiting m.ending) (length m.waiting)
-run-tells m n o k l e =
-    let t = advance_by n (at_start m) in
-    let told = settles m n l in
-    let q : Ok (RunSettled o k) ≡ Ok (RunSettled (outcome by_axioms m.counts.threads m.waiting m.ending) (tally (at_start m) t)) = e ∙ ap (λ r. Ok (run_told r (tally (at_start m) t))) told in
-    let eo : o ≡ outcome by_axioms m.counts.threads m.waiting m.ending = cc in
-    let ek : k ≡ tally (at_start m) t = cc in
-    (λ i. outcome_line (eo i) (ek i)) ∙ line_same (outcome by_axioms m.counts.threads m.waiting m.ending) (tally (at_start m) t) (length m.waiting) (λ c. let z = takes-from n m.counts m.waiting m.ending [] l c in omega arith)
+module _ (m : Meaning) (n : ℕ) (l : length m.waiting < n) where
+  abbrev whole : RunAnswer
+  whole = record { outcome = Some (outcome by_axioms m.counts.threads m.waiting m.ending); taken = tally (at_start m) (advance_by n (at_start m)) }
 
-pub run-no-budget : (m : Meaning) (n k : ℕ) → length m.waiting < n → Ok (BudgetUsed k) ≡ run_answer n (at_start m) → ⊥
-run-no-budget m n k l e =
-    let t = advance_by n (at_start m) in
-    let q : Ok (BudgetUsed k) ≡ Ok (RunSettled (outcome by_axioms m.counts.threads m.waiting m.ending) (tally (at_start m) t)) = e ∙ ap (λ r. Ok (run_told r (tally (at_start m) t))) (settles m n l) in
-    let z : ◌≡◌ {A = ℕ} 0 1 = cc in omega arith
+  of-ok : (a b : RunAnswer) → ◌≡◌ {A = Result RunAnswer Refusal} (Ok a) (Ok b) → a ≡ b
+  of-ok a b e = cc
 
-pub run-no-refusal : (m : Meaning) (n : ℕ) (r : Refusal) → ◌≡◌ {A = Result RunAnswer Refusal} (Err r) (run_answer n (at_start m)) → ⊥
-run-no-refusal m n r e = let z : ◌≡◌ {A = ℕ} 0 1 = cc in omega arith
+  of-some : (a b : Outcome) → Some a ≡ Some b → a ≡ b
+  of-some a b e = cc
+
+  -- the run settles with the outcome of the list
+  pub run-whole : run_answer n (at_start m) ≡ Ok whole
+  run-whole = ap (λ o. Ok (record { outcome = o; taken = tally (at_start m) (advance_by n (at_start m)) })) (settles m n l)
+
+  pub run-some : (r : RunAnswer) → Ok r ≡ run_answer n (at_start m) → r.outcome ≡ Some (outcome by_axioms m.counts.threads m.waiting m.ending)
+  run-some r e = ap (λ a. a.outcome) (of-ok r whole (e ∙ run-whole))
+
+  -- and its tally is as the line has it
+  pub run-tells : (r : RunAnswer) (o : Outcome) → Ok r ≡ run_answer n (at_start m) → r.outcome ≡ Some o → outcome_line o r.taken ≡ outcome_line (outcome by_axioms m.counts.threads m.waiting m.ending) (length m.waiting)
+  run-tells r o e q =
+      let eo = of-some o (outcome by_axioms m.counts.threads m.waiting m.ending) (sym q ∙ run-some r e) in
+      let et = ap (λ a. a.taken) (of-ok r whole (e ∙ run-whole)) in
+      (λ i. outcome_line (eo i) (et i)) ∙ line_same (outcome by_axioms m.counts.threads m.waiting m.ending) _ _ (λ c. let z = takes-from n m.counts m.waiting m.ending [] l c in omega arith)

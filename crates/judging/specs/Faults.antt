@@ -6,4 +6,4 @@ use Rattle.judging.specs.declared.faults.Fault.TheVariants.{Damaged, Unlawful}
 
 abbrev pub fault_outcome : Fault → Outcome
 fault_outcome (Damaged d) = DamagedOutcome d
-fault_outcome (Unlawful t i k) = UnlawfulOutcome t i k
+fault_outcome (Unlawful u) = UnlawfulOutcome u

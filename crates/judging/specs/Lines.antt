@@ -15,7 +15,7 @@ use Rattle.judging.specs.declared.lines.Line.TheVariants.{Compliant as Compliant
 -- the line of an outcome, where so many records were taken
 abbrev pub outcome_line : Outcome → ℕ → Line
 outcome_line Compliant n = CompliantLine n
-outcome_line (Unlawful t i k) n = UnlawfulLine t i k
+outcome_line (Unlawful u) n = UnlawfulLine u
 outcome_line (Damaged d) n = DamagedLine d
 
 abbrev pub meaning_line : Result Meaning Refusal → Line
@@ -28,6 +28,6 @@ line_of bs = meaning_line (opened bs)
 
 abbrev pub line_text : Line → List ℕ
 line_text (CompliantLine n) = codes "compliant " ++ decimal n
-line_text (UnlawfulLine t i k) = codes "unlawful " ++ (decimal t ++ (codes " " ++ (decimal i ++ (codes " " ++ decimal (reason_number k)))))
+line_text (UnlawfulLine u) = codes "unlawful " ++ (decimal u.thread ++ (codes " " ++ (decimal u.index ++ (codes " " ++ decimal (reason_number u.reason)))))
 line_text (DamagedLine d) = codes "damaged " ++ (decimal (cause_number d.cause) ++ (codes " " ++ (decimal d.place ++ (codes " " ++ decimal d.depth))))
 line_text (Refused e) = codes "refused " ++ decimal (refusal_number e)

@@ -1,21 +1,12 @@
-//! What the judge answers.
+//! What the judge answers to a run.
 
 use model::Outcome;
 
-/// What a step came to.
-#[derive(Clone, Copy)]
-pub enum StepAnswer {
-    /// A lawful record was taken.
-    Taken,
-    /// The outcome of the trace.
-    Settled(Outcome),
-}
-
-/// What a run came to, and how many records it took.
-#[derive(Clone, Copy)]
-pub enum RunAnswer {
-    /// As many records as the budget allows were taken.
-    BudgetUsed { taken: usize },
-    /// The outcome of the trace.
-    Settled { outcome: Outcome, taken: usize },
+/// What a run came to.
+#[derive(Clone, Copy, PartialEq, Eq, Debug)]
+pub struct RunAnswer {
+    /// The outcome of the trace; none where as many records as the budget allows were taken.
+    pub outcome: Option<Outcome>,
+    /// How many records the run took.
+    pub taken: usize,
 }

@@ -4,20 +4,16 @@ ghost use Rattle.std.specs.Prelude.{◌≡◌};
 ghost use Rattle.judging.specs.Faults.{fault_outcome};
 ghost use Rattle.judging.specs.declared.faults.Fault.TheVariants.{Damaged};
 
-use model::{Outcome, Reason};
+use model::{Outcome, UnlawfulRecord};
 use record::Damage;
 
 /// Why no record is taken, though the trace has not ended clean.
-#[derive(Clone, Copy)]
+#[derive(Clone, Copy, PartialEq, Eq, Debug)]
 pub enum Fault {
     /// The feed ends damaged.
     Damaged(Damage),
     /// The next record is unlawful.
-    Unlawful {
-        thread: u8,
-        index: usize,
-        reason: Reason,
-    },
+    Unlawful(UnlawfulRecord),
 }
 
 impl From<Damage> for Fault {
@@ -34,15 +30,7 @@ impl From<Fault> for Outcome {
     fn from(fault: Fault) -> Outcome {
         match fault {
             Fault::Damaged(damage) => Outcome::Damaged(damage),
-            Fault::Unlawful {
-                thread,
-                index,
-                reason,
-            } => Outcome::Unlawful {
-                thread,
-                index,
-                reason,
-            },
+            Fault::Unlawful(found) => Outcome::Unlawful(found),
         }
     }
 }

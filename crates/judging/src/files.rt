@@ -21,15 +21,7 @@ pub fn line(outcome: Outcome, taken: usize) -> Line
 {
     match outcome {
         Outcome::Compliant => Line::Compliant { taken },
-        Outcome::Unlawful {
-            thread,
-            index,
-            reason,
-        } => Line::Unlawful {
-            thread,
-            index,
-            reason,
-        },
+        Outcome::Unlawful(found) => Line::Unlawful(found),
         Outcome::Damaged(damage) => Line::Damaged(damage),
     }
 }
@@ -40,13 +32,8 @@ fn judge_feed<P: Feed + Drop>(pile: P) -> Line
     ensures { result ≡ outcome_line (outcome_of by_axioms (P.Feed.meaning pile).counts.threads (P.Feed.meaning pile).waiting (P.Feed.meaning pile).ending) (length (P.Feed.meaning pile).waiting) }
 {
     let mut judge = Judge::open(pile);
-    match judge.run(BUDGET) {
-        Ok(answer) => match answer {
-            RunAnswer::Settled { outcome, taken } => line(outcome, taken),
-            RunAnswer::BudgetUsed { taken: _taken } => unreachable(),
-        },
-        Err(_refusal) => unreachable(),
-    }
+    let RunAnswer { outcome, taken } = judge.run(BUDGET).unwrap();
+    line(outcome.unwrap(), taken)
 }
 
 /// Judges the bytes as a trace file, and returns the line to print.

@@ -7,7 +7,7 @@ mod files;
 mod judges;
 mod lines;
 
-pub use answers::{RunAnswer, StepAnswer};
+pub use answers::RunAnswer;
 pub use faults::Fault;
 pub use files::{judge_file, line};
 pub use judges::Judge;

@@ -4,23 +4,17 @@ ghost use Rattle.std.specs.Prelude.{Some};
 ghost use Rattle.judging.specs.Lines.{line_text};
 
 use feed::Refusal;
-use model::Reason;
+use model::UnlawfulRecord;
 use record::Damage;
 use std::fmt;
 
-/// What a trace file comes to.
-#[derive(Clone, Copy, PartialEq, Eq)]
+/// What a trace file comes to. A type of its own, since a line is printed, and a `Result` has no `Display`.
+#[derive(Clone, Copy, PartialEq, Eq, Debug)]
 pub enum Line {
     /// Every record is lawful, and so many were taken.
-    Compliant {
-        taken: usize,
-    },
+    Compliant { taken: usize },
     /// The first record that is not lawful.
-    Unlawful {
-        thread: u8,
-        index: usize,
-        reason: Reason,
-    },
+    Unlawful(UnlawfulRecord),
     /// Every record is lawful, and the file ends damaged.
     Damaged(Damage),
     /// The bytes are no trace file.
@@ -33,11 +27,13 @@ impl fmt::Display for Line {
     fn fmt<W: fmt::Write>(&self, f: &mut fmt::Formatter<W>) -> fmt::Result {
         match *self {
             Line::Compliant { taken } => write!(f, "compliant {taken}"),
-            Line::Unlawful {
-                thread,
-                index,
-                reason,
-            } => {
+            Line::Unlawful(
+                UnlawfulRecord {
+                    thread,
+                    index,
+                    reason,
+                },
+            ) => {
                 let number = reason.number();
                 write!(f, "unlawful {thread} {index} {number}")
             }
