@@ -3,7 +3,7 @@ use Rattle.std.proofs.Common.{◌≡◌, ℕ, true, ◌&&◌, reverse, Some, sym
 use Rattle.record.specs.declared.causes.Damage.{Damage}
 use Rattle.record.specs.Ending.{Ending, clean, damaged}
 use Rattle.record.specs.Numbers.{cause_number}
-use Rattle.model.specs.declared.reasons.Reason.{Reason}
+use Rattle.model.specs.declared.outcomes.UnlawfulRecord.{UnlawfulRecord}
 use Rattle.model.specs.declared.outcomes.Outcome.{Outcome}
 use Rattle.model.specs.declared.outcomes.Outcome.TheVariants.{Compliant, Unlawful, Damaged}
 use Rattle.model.specs.Laws.{by_axioms}
@@ -27,15 +27,15 @@ same_place p q c d e = λ i. eq-eqb (cause_number c.cause) (cause_number d.cause
 damage-same : (a b : Damage) → damaged a ≡ damaged b → a ≡ b
 damage-same a b e = cc
 
-unlawful-compliant : (t i : ℕ) (k : Reason) → unlawful_of t i k ≡ Compliant → ⊥
-unlawful-compliant t i k e = let z : ◌≡◌ {A = ℕ} 0 1 = cc in omega arith
+unlawful-compliant : (u : UnlawfulRecord) → Unlawful u ≡ Compliant → ⊥
+unlawful-compliant u e = let z : ◌≡◌ {A = ℕ} 0 1 = cc in omega arith
 
-unlawful-damaged : (t i : ℕ) (k : Reason) (d : Damage) → unlawful_of t i k ≡ Damaged d → ⊥
-unlawful-damaged t i k d e = let z : ◌≡◌ {A = ℕ} 0 1 = cc in omega arith
+unlawful-damaged : (u : UnlawfulRecord) (d : Damage) → Unlawful u ≡ Damaged d → ⊥
+unlawful-damaged u d e = let z : ◌≡◌ {A = ℕ} 0 1 = cc in omega arith
 
 -- an unlawful outcome cannot stand where all is lawful
-not-all-lawful : (p : Pile) (n t i : ℕ) (k : Reason) → TellsBottom p n (Some (unlawful_of t i k)) → BottomLawful p → ⊥
-not-all-lawful p n t i k s f = let r = by-ending p n (unlawful_of t i k) s f (bottom_of p).ending refl (unlawful-compliant t i k) in unlawful-damaged t i k _ r.2
+not-all-lawful : (p : Pile) (n : ℕ) (u : UnlawfulRecord) → TellsBottom p n (Some (Unlawful u)) → BottomLawful p → ⊥
+not-all-lawful p n u s f = let r = by-ending p n (Unlawful u) s f (bottom_of p).ending refl (unlawful-compliant u) in unlawful-damaged u _ r.2
 
 module _ (p q : Pile) (e : bottom_of p ≡ bottom_of q) (n k : ℕ) where
   compliant-both : (b : Outcome) → TellsBottom p n (Some Compliant) → TellsBottom q k (Some b) → agreeing Compliant b ≡ true
@@ -47,12 +47,12 @@ module _ (p q : Pile) (e : bottom_of p ≡ bottom_of q) (n k : ℕ) where
       let d = f.1.0 in
       (λ i. agreeing (Damaged (f.1.2 i)) (t.only_damage b d refl (sym (ap (λ m. m.ending) e) ∙ f.1.1) (lawful-same p q e f.0) i)) ∙ same_place p q d d refl
 
-  unlawful-both : (u i : ℕ) (r : Reason) (b : Outcome) → TellsBottom p n (Some (unlawful_of u i r)) → TellsBottom q k (Some b) → agreeing (unlawful_of u i r) b ≡ true
-  unlawful-both u i r Compliant s t = absurd (not-all-lawful p n u i r s (lawful-same q p (sym e) (t.compliant refl).1))
-  unlawful-both u i r (unlawful_of v j l) s t = refl
-  unlawful-both u i r (Damaged d) s t = absurd (not-all-lawful p n u i r s (lawful-same q p (sym e) (t.damage d refl).0))
+  unlawful-both : (u : UnlawfulRecord) (b : Outcome) → TellsBottom p n (Some (Unlawful u)) → TellsBottom q k (Some b) → agreeing (Unlawful u) b ≡ true
+  unlawful-both u Compliant s t = absurd (not-all-lawful p n u s (lawful-same q p (sym e) (t.compliant refl).1))
+  unlawful-both u (Unlawful v) s t = refl
+  unlawful-both u (Damaged d) s t = absurd (not-all-lawful p n u s (lawful-same q p (sym e) (t.damage d refl).0))
 
 pub sites-agree : SitesAgree
 sites-agree p q e n k Compliant b s t = compliant-both p q e n k b s t
-sites-agree p q e n k (unlawful_of u i r) b s t = unlawful-both p q e n k u i r b s t
+sites-agree p q e n k (Unlawful u) b s t = unlawful-both p q e n k u b s t
 sites-agree p q e n k (Damaged c) b s t = damaged-both p q e n k c b s t

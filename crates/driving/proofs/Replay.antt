@@ -1,9 +1,10 @@
 -- Calls made one after the other.
-use Rattle.std.proofs.Common.{◌≡◌, ℕ, zero, suc, ◌+◌, ◌<◌, ◌≤◌, List, [], ◌∷◌, ◌++◌, length, get_or, take, drop, set, Some, sym, refl, ap, ◌∙◌, append-nil, le_of_suc-le-suc, not-suc-le-zero, add-zero, arith}
+use Rattle.std.proofs.Common.{◌≡◌, ℕ, zero, suc, ◌+◌, ◌<◌, ◌≤◌, List, [], ◌∷◌, ◌++◌, length, get_or, take, drop, set, Some, Result, sym, refl, ap, ◌∙◌, append-nil, le_of_suc-le-suc, not-suc-le-zero, add-zero, arith}
 use Rattle.std.proofs.lemmas.List.{drop_all}
 use Rattle.judging.specs.Standing.{Standing, advance_by}
 use Rattle.judging.proofs.Running.{split}
-use Rattle.driving.specs.declared.calls.Answer.{Answer}
+use Rattle.feed.specs.declared.refusals.Refusal.{Refusal}
+use Rattle.driving.specs.declared.calls.Reply.{Reply}
 use Rattle.driving.specs.declared.calls.Entry.{Entry}
 use Rattle.driving.specs.Calls.{asks, answer_to, stands_after, replayed, asked}
 
@@ -15,10 +16,10 @@ made s es i = replayed s (take i es) ++ drop i es
 abbrev pub after : Standing → List Entry → ℕ → Standing
 after s es i = advance_by (asked (take i es)) s
 
-abbrev answered : List Entry → ℕ → Entry → Answer → List Entry
+abbrev answered : List Entry → ℕ → Entry → (Result Reply Refusal) → List Entry
 answered ns i d r = set ns i (record { call = (get_or ns i d).call; answer = Some r })
 
-more : (es : List Entry) (i : ℕ) (s : Standing) (d : Entry) (r : Answer) → i < length es → r ≡ answer_to (get_or (made s es i) i d).call (after s es i) → answered (made s es i) i d r ≡ made s es (suc i)
+more : (es : List Entry) (i : ℕ) (s : Standing) (d : Entry) (r : Result Reply Refusal) → i < length es → r ≡ answer_to (get_or (made s es i) i d).call (after s es i) → answered (made s es i) i d r ≡ made s es (suc i)
 more [] i s d r l e = absurd (not-suc-le-zero l)
 more (e ∷ es) zero s d r l q = ap (λ a. record { call = e.call; answer = Some a } ∷ es) q
 more (e ∷ es) (suc i) s d r l q =
@@ -34,7 +35,7 @@ stood (e ∷ es) (suc i) s d l =
     ap (stands_after (get_or (made t es i) i d).call) (split (asks e.call) (asked (take i es)) s) ∙ (stood es i t d (le_of_suc-le-suc l) ∙ sym (split (asks e.call) (asked (take (suc i) es)) s))
 
 -- one call more, on the entries ns as they are
-pub made_more : (es ns : List Entry) (i : ℕ) (s : Standing) (d : Entry) (r : Answer) → i < length es → ns ≡ made s es i → r ≡ answer_to (get_or ns i d).call (after s es i) → answered ns i d r ≡ made s es (i + 1)
+pub made_more : (es ns : List Entry) (i : ℕ) (s : Standing) (d : Entry) (r : Result Reply Refusal) → i < length es → ns ≡ made s es i → r ≡ answer_to (get_or ns i d).call (after s es i) → answered ns i d r ≡ made s es (i + 1)
 made_more es ns i s d r l e q =
     let n : suc i ≡ i + 1 = omega arith in
     ap (λ xs. answered xs i d r) e ∙ (more es i s d r l (q ∙ ap (λ xs. answer_to (get_or xs i d).call (after s es i)) e) ∙ ap (made s es) n)

@@ -1,39 +1,32 @@
 -- What the answers tell of the bottom of the pile.
 use Rattle.std.proofs.Common.{◌≡◌, ℕ, zero, suc, ◌+◌, Bool, true, false, List, [], ◌∷◌, take, Some, None, Ok, Err, Option, Result, sym, refl, ap, ◌∙◌, subst, add-zero}
-use Rattle.driving.specs.declared.calls.Answer.{Answer}
+use Rattle.std.specs.Result.{result_map_both}
+use Rattle.driving.specs.declared.calls.Reply.{Reply}
+use Rattle.driving.specs.declared.calls.Reply.TheVariants.{Step as ReplyToStep, Run as ReplyToRun, Question as ReplyToQuestion}
 use Rattle.model.specs.declared.outcomes.Outcome.{Outcome}
 use Rattle.feed.specs.declared.refusals.Refusal.{Refusal}
 use Rattle.feed.specs.Meaning.{Meaning}
 use Rattle.feed.specs.Pile.{Pile, Proper, delivered}
 use Rattle.judging.specs.Standing.{Standing, at_start, advance, advance_by}
-use Rattle.judging.specs.Answers.{step_told, run_told, unless_settled, tally, question_answer}
+use Rattle.judging.specs.Answers.{run_told, unless_settled, question_answer}
 use Rattle.judging.specs.Sites.{TellsBottom}
 use Rattle.judging.proofs.Running.{stays, split}
 use Rattle.judging.proofs.Bottoms.{tells-bottom}
 use Rattle.driving.specs.declared.calls.Call.{Call}
 use Rattle.driving.specs.declared.calls.Call.TheVariants.{Step, Run, Question}
 use Rattle.driving.specs.declared.calls.Entry.{Entry}
-use Rattle.driving.specs.Calls.{step_answered, run_answered, question_answered, answer_to, asks, stands_after, replayed, asked, outcome_in, first_told, told}
+use Rattle.driving.specs.Calls.{answer_to, asks, stands_after, replayed, asked, outcome_in, first_told, told}
 use Rattle.driving.specs.OneOutcome.{OneOutcome}
-
-step-tells : (o : Option Outcome) → outcome_in (Some (step_answered (Ok (step_told o)))) ≡ o
-step-tells None = refl
-step-tells (Some o) = refl
-
-run-tells : (o : Option Outcome) (n : ℕ) → outcome_in (Some (run_answered (Ok (run_told o n)))) ≡ o
-run-tells None n = refl
-run-tells (Some o) n = refl
-
-question-tells : (r : Result Bool Refusal) → outcome_in (Some (question_answered r)) ≡ None
-question-tells (Ok true) = refl
-question-tells (Ok false) = refl
-question-tells (Err e) = refl
 
 -- before any outcome, a call's answer tells the outcome that then stands
 answer-tells : (c : Call) (s : Standing) → s.told ≡ None → outcome_in (Some (answer_to c s)) ≡ (stands_after c s).told
-answer-tells Step s e = ap (λ k. outcome_in (Some (step_answered (unless_settled k (step_told (advance s).told))))) e ∙ step-tells (advance s).told
-answer-tells (Run b) s e = ap (λ k. outcome_in (Some (run_answered (unless_settled k (run_told (advance_by b s).told (tally s (advance_by b s))))))) e ∙ run-tells (advance_by b s).told (tally s (advance_by b s))
+answer-tells Step s e = ap (λ k. outcome_in (Some (result_map_both ReplyToStep (λ x. x) (unless_settled k (advance s).told)))) e
+answer-tells (Run b) s e = ap (λ k. outcome_in (Some (result_map_both ReplyToRun (λ x. x) (unless_settled k (run_told s (advance_by b s)))))) e
 answer-tells (Question r u n) s e = question-tells (question_answer s r u n) ∙ sym e
+  where
+    question-tells : (r : Result Bool Refusal) → outcome_in (Some (result_map_both ReplyToQuestion (λ x. x) r)) ≡ None
+    question-tells (Ok b) = refl
+    question-tells (Err e) = refl
 
 one-call : (c : Call) (s : Standing) (later : Option Outcome) (o : Option Outcome) → s.told ≡ o → first_told o (first_told (outcome_in (Some (answer_to c s))) later) ≡ first_told (stands_after c s).told later
 one-call c s later None e = ap (λ k. first_told k later) (answer-tells c s e)
@@ -71,7 +64,7 @@ one-outcome p w m e es ns q k =
     subst (λ xs. TellsBottom p (asked xs) (told xs)) (sym same) (so_far p w (take k es))
 
 -- of one call
-pub of_one : (p : Pile) (c : Call) (a : Answer) (es : List Entry) → es ≡ record { call = c; answer = Some a } ∷ [] → OneOutcome p es → TellsBottom p (asks c) (outcome_in (Some a))
+pub of_one : (p : Pile) (c : Call) (a : Result Reply Refusal) (es : List Entry) → es ≡ record { call = c; answer = Some a } ∷ [] → OneOutcome p es → TellsBottom p (asks c) (outcome_in (Some a))
 of_one p c a es e o =
     let t : TellsBottom p (asks c + 0) (first_told (outcome_in (Some a)) None) = subst (λ xs. TellsBottom p (asked (take 1 xs)) (told (take 1 xs))) e (o 1) in
     subst (TellsBottom p (asks c)) (none-later (outcome_in (Some a))) (subst (λ n. TellsBottom p n (first_told (outcome_in (Some a)) None)) (add-zero (asks c)) t)

@@ -9,13 +9,13 @@ use Rattle.judging.specs.Sites.{TellsBottom}
 -- The two outcomes are of one kind, and if damaged, of one cause and place. Two that are unlawful may name different records.
 abbrev pub agreeing : Outcome → Outcome → Bool
 agreeing Compliant Compliant = true
-agreeing Compliant (Unlawful t i k) = false
+agreeing Compliant (Unlawful u) = false
 agreeing Compliant (Damaged d) = false
-agreeing (Unlawful t i k) Compliant = false
-agreeing (Unlawful t i k) (Unlawful u j l) = true
-agreeing (Unlawful t i k) (Damaged d) = false
+agreeing (Unlawful u) Compliant = false
+agreeing (Unlawful u) (Unlawful v) = true
+agreeing (Unlawful u) (Damaged d) = false
 agreeing (Damaged c) Compliant = false
-agreeing (Damaged c) (Unlawful t i k) = false
+agreeing (Damaged c) (Unlawful u) = false
 agreeing (Damaged c) (Damaged d) = cause_number c.cause == cause_number d.cause && c.place == d.place
 
 -- two outcomes that each tell of the bottom of a pile agree, where the bottoms are the same

@@ -1,39 +1,21 @@
 -- What a judge answers to a list of calls.
-use Rattle.std.specs.Prelude.{ℕ, ◌+◌, Bool, true, false, List, [], ◌∷◌, Some, None, Ok, Err, Option, Result}
+use Rattle.std.specs.Prelude.{ℕ, ◌+◌, List, [], ◌∷◌, Some, None, Ok, Err, Option, Result}
+use Rattle.std.specs.Result.{result_map_both}
 use Rattle.model.specs.declared.outcomes.Outcome.{Outcome}
 use Rattle.feed.specs.declared.refusals.Refusal.{Refusal}
-use Rattle.judging.specs.declared.answers.StepAnswer.{StepAnswer}
-use Rattle.judging.specs.declared.answers.StepAnswer.TheVariants.{Taken as StepTaken, Settled as StepSettled}
-use Rattle.judging.specs.declared.answers.RunAnswer.{RunAnswer}
-use Rattle.judging.specs.declared.answers.RunAnswer.TheVariants.{BudgetUsed as RunUsed, Settled as RunSettled}
 use Rattle.judging.specs.Standing.{Standing, advance_by}
 use Rattle.judging.specs.Answers.{step_answer, run_answer, question_answer}
 use Rattle.driving.specs.declared.calls.Call.{Call}
 use Rattle.driving.specs.declared.calls.Call.TheVariants.{Step, Run, Question}
-use Rattle.driving.specs.declared.calls.Answer.{Answer}
-use Rattle.driving.specs.declared.calls.Answer.TheVariants.{Taken, Settled, BudgetUsed, Yes, No, Refused}
+use Rattle.driving.specs.declared.calls.Reply.{Reply}
+use Rattle.driving.specs.declared.calls.Reply.TheVariants.{Step as ReplyToStep, Run as ReplyToRun, Question as ReplyToQuestion}
 use Rattle.driving.specs.declared.calls.Entry.{Entry}
 
--- the answer of a step, of a run and of a question
-abbrev pub step_answered : Result StepAnswer Refusal → Answer
-step_answered (Ok StepTaken) = Taken
-step_answered (Ok (StepSettled o)) = Settled o 0
-step_answered (Err e) = Refused e
-
-abbrev pub run_answered : Result RunAnswer Refusal → Answer
-run_answered (Ok (RunUsed n)) = BudgetUsed n
-run_answered (Ok (RunSettled o n)) = Settled o n
-run_answered (Err e) = Refused e
-
-abbrev pub question_answered : Result Bool Refusal → Answer
-question_answered (Ok true) = Yes
-question_answered (Ok false) = No
-question_answered (Err e) = Refused e
-
-abbrev pub answer_to : Call → Standing → Answer
-answer_to Step s = step_answered (step_answer s)
-answer_to (Run budget) s = run_answered (run_answer budget s)
-answer_to (Question r u n) s = question_answered (question_answer s r u n)
+-- what a judge that stands at s answers to a call
+abbrev pub answer_to : Call → Standing → Result Reply Refusal
+answer_to Step s = result_map_both ReplyToStep (λ e. e) (step_answer s)
+answer_to (Run budget) s = result_map_both ReplyToRun (λ e. e) (run_answer budget s)
+answer_to (Question r u n) s = result_map_both ReplyToQuestion (λ e. e) (question_answer s r u n)
 
 -- how many records a call asks for at the most
 abbrev pub asks : Call → ℕ
@@ -55,15 +37,16 @@ abbrev pub asked : List Entry → ℕ
 asked [] = 0
 asked (e ∷ es) = asks e.call + asked es
 
--- the outcome that an answer tells, if it tells one
-abbrev pub outcome_in : Option Answer → Option Outcome
+-- the outcome that a reply tells, and an answer, if it tells one
+abbrev pub told_by : Reply → Option Outcome
+told_by (ReplyToStep o) = o
+told_by (ReplyToRun a) = a.outcome
+told_by (ReplyToQuestion b) = None
+
+abbrev pub outcome_in : Option (Result Reply Refusal) → Option Outcome
 outcome_in None = None
-outcome_in (Some Taken) = None
-outcome_in (Some (Settled o n)) = Some o
-outcome_in (Some (BudgetUsed n)) = None
-outcome_in (Some Yes) = None
-outcome_in (Some No) = None
-outcome_in (Some (Refused e)) = None
+outcome_in (Some (Ok r)) = told_by r
+outcome_in (Some (Err e)) = None
 
 -- the first outcome that is there
 abbrev pub first_told : Option Outcome → Option Outcome → Option Outcome

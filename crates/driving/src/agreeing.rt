@@ -11,10 +11,8 @@ pub fn agree(a: Outcome, b: Outcome) -> bool
 {
     match (a, b) {
         (Outcome::Compliant, Outcome::Compliant) => true,
-        (Outcome::Unlawful { .. }, Outcome::Unlawful { .. }) => true,
-        (Outcome::Damaged(c), Outcome::Damaged(d)) => {
-            c.cause.number() == d.cause.number() && c.place == d.place
-        }
+        (Outcome::Unlawful(_), Outcome::Unlawful(_)) => true,
+        (Outcome::Damaged(c), Outcome::Damaged(d)) => { c.cause == d.cause && c.place == d.place }
         _ => false,
     }
 }

@@ -1,10 +1,11 @@
 //! The calls that a judge is driven through, and their answers.
 
 use feed::Refusal;
+use judging::RunAnswer;
 use model::Outcome;
 
 /// What a judge is asked to do.
-#[derive(Clone, Copy)]
+#[derive(Clone, Copy, PartialEq, Eq, Debug)]
 pub enum Call {
     /// Ask for one record.
     Step,
@@ -14,25 +15,22 @@ pub enum Call {
     Question { reader: u8, writer: u8, number: u16 },
 }
 
-/// What the judge answered.
-#[derive(Clone, Copy)]
-pub enum Answer {
-    /// A lawful record was taken.
-    Taken,
-    /// The outcome of the trace, and how many records the call took before it.
-    Settled { outcome: Outcome, taken: usize },
-    /// As many records as the budget allows were taken.
-    BudgetUsed { taken: usize },
-    /// The write may be read.
-    Yes,
-    /// The write may not be read.
-    No,
-    /// The call was refused, and changed nothing.
-    Refused(Refusal),
+/// What a judge answers to a call that it does not refuse.
+#[derive(Clone, Copy, PartialEq, Eq, Debug)]
+pub enum Reply {
+    /// To a step: the outcome of the trace; none where a lawful record was taken.
+    Step(Option<Outcome>),
+    /// To a run: the outcome, if it was told, and how many records were taken.
+    Run(RunAnswer),
+    /// To a question: whether the write may be read.
+    Question(bool),
 }
 
+/// What a judge answers to a call; one that is refused has changed nothing.
+pub type Answer = Result<Reply, Refusal>;
+
 /// A call, and its answer once it was made.
-#[derive(Clone, Copy)]
+#[derive(Clone, Copy, PartialEq, Eq, Debug)]
 pub struct Entry {
     pub call: Call,
     pub answer: Option<Answer>,

@@ -1,43 +1,31 @@
 //! Opening a judge on a pile and making every call of a list.
 
-ghost use Rattle.std.specs.Prelude.{◌≡◌, Some};
+ghost use Rattle.std.specs.Prelude.{◌≡◌, Ok};
 ghost use Rattle.feed.specs.Meaning.{Meaning};
 ghost use Rattle.feed.specs.Pile.{Pile, Proper, delivered};
-ghost use Rattle.judging.specs.At.{At};
+ghost use Rattle.judging.specs.Answers.{run_answer};
+ghost use Rattle.judging.specs.At.{At, AnswersFrom};
 ghost use Rattle.judging.specs.Standing.{Standing, at_start};
 ghost use Rattle.judging.specs.Sites.{TellsBottom};
-ghost use Rattle.driving.specs.declared.calls.Call.TheVariants.{Run};
-ghost use Rattle.driving.specs.Calls.{answer_to, stands_after, replayed, outcome_in};
+ghost use Rattle.driving.specs.Calls.{answer_to, stands_after, replayed};
 ghost use Rattle.driving.specs.OneOutcome.{OneOutcome};
 
-use crate::calls::{Answer, Call, Entry};
+use crate::calls::{Answer, Call, Entry, Reply};
 use feed::Feed;
-use judging::{Judge, RunAnswer, StepAnswer};
+use judging::{Judge, RunAnswer};
 
 /// Makes one call, and returns its answer.
 fn answer<P: Feed>(judge: &mut Judge<P>, call: Call) -> Answer
-    ensures { (s : Standing) → At P.Feed.meaning judge.old s → (result ≡ answer_to call s) × At P.Feed.meaning judge.new (stands_after call s) }
+    ensures { AnswersFrom P.Feed.meaning judge.old judge.new result (answer_to call) (stands_after call) }
 {
     match call {
-        Call::Step => match judge.step() {
-            Ok(StepAnswer::Taken) => Answer::Taken,
-            Ok(StepAnswer::Settled(outcome)) => Answer::Settled { outcome, taken: 0 },
-            Err(refusal) => Answer::Refused(refusal),
-        },
-        Call::Run { budget } => match judge.run(budget) {
-            Ok(RunAnswer::BudgetUsed { taken }) => Answer::BudgetUsed { taken },
-            Ok(RunAnswer::Settled { outcome, taken }) => Answer::Settled { outcome, taken },
-            Err(refusal) => Answer::Refused(refusal),
-        },
+        Call::Step => judge.step().map(Reply::Step),
+        Call::Run { budget } => judge.run(budget).map(Reply::Run),
         Call::Question {
             reader,
             writer,
             number,
-        } => match judge.question(reader, writer, number) {
-            Ok(true) => Answer::Yes,
-            Ok(false) => Answer::No,
-            Err(refusal) => Answer::Refused(refusal),
-        },
+        } => judge.question(reader, writer, number).map(Reply::Question),
     }
 }
 
@@ -60,16 +48,16 @@ pub fn drive<P: Feed + Drop>(pile: P, entries: &mut [Entry])
     make_calls(&mut judge, entries);
 }
 
-/// Opens a new judge on the pile, makes one run with this budget, and returns its answer.
-pub fn run_once<P: Feed + Drop>(pile: P, budget: usize) -> Answer
-    ensures exact { result ≡ answer_to (Run budget) (at_start (P.Feed.meaning pile)) }
-    ensures one_outcome { P.Feed.unread pile → TellsBottom (P.Feed.pile pile) budget (outcome_in (Some result)) }
+/// Opens a new judge on the pile, makes one run with this budget, and returns what it came to.
+pub fn run_once<P: Feed + Drop>(pile: P, budget: usize) -> RunAnswer
+    ensures exact { Ok result ≡ run_answer budget (at_start (P.Feed.meaning pile)) }
+    ensures one_outcome { P.Feed.unread pile → TellsBottom (P.Feed.pile pile) budget result.outcome }
 {
     let call = Call::Run { budget };
     let mut entries = [Entry { call, answer: None }];
     drive(pile, &mut entries);
     match entries[0].answer {
-        Some(answer) => answer,
-        None => unreachable(),
+        Some(Ok(Reply::Run(run))) => run,
+        _ => unreachable(),
     }
 }

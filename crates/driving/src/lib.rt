@@ -6,5 +6,5 @@ mod calls;
 mod drives;
 
 pub use agreeing::{agree, sites_agree};
-pub use calls::{Answer, Call, Entry};
+pub use calls::{Answer, Call, Entry, Reply};
 pub use drives::{drive, run_once};
