@@ -9,6 +9,6 @@ use Rattle.judging.specs.declared.lines.Line.TheVariants.{Compliant, Unlawful, D
 -- four numbers: the kind of the line, its own numbers in the line's order, and zeros behind them
 abbrev pub numbers_of : Line → List ℕ
 numbers_of (Compliant n) = 0 ∷ n ∷ 0 ∷ 0 ∷ []
-numbers_of (Unlawful t i k) = 1 ∷ t ∷ i ∷ reason_number k ∷ []
+numbers_of (Unlawful u) = 1 ∷ u.thread ∷ u.index ∷ reason_number u.reason ∷ []
 numbers_of (Damaged d) = 2 ∷ cause_number d.cause ∷ d.place ∷ d.depth ∷ []
 numbers_of (Refused e) = 3 ∷ refusal_number e ∷ 0 ∷ 0 ∷ []

@@ -1,12 +1,14 @@
 //! The judge for C, and for any program that can call C: one call over bytes, which answers in numbers.
 #![tactic(auto)]
 
-ghost use Rattle.std.specs.Prelude.{◌≡◌, cond, ◌++◌, leb, length, drop};
+ghost use Rattle.std.specs.Prelude.{◌≡◌, ◌++◌, if◌then◌else◌, length, drop, nat_le};
 ghost use Rattle.judging.specs.Lines.{line_of};
 ghost use Rattle.judge_c.specs.Numbers.{numbers_of};
 
 use judging::{Line, judge_file};
+use model::UnlawfulRecord;
 
+// The kinds are constants of 64 bits, as the C header names them.
 const COMPLIANT: u64 = 0;
 
 const UNLAWFUL: u64 = 1;
@@ -21,11 +23,13 @@ fn numbers(line: Line) -> [u64; 4]
 {
     match line {
         Line::Compliant { taken } => [COMPLIANT, taken as u64, 0, 0],
-        Line::Unlawful {
-            thread,
-            index,
-            reason,
-        } => [
+        Line::Unlawful(
+            UnlawfulRecord {
+                thread,
+                index,
+                reason,
+            },
+        ) => [
             UNLAWFUL,
             u64::from(thread),
             index as u64,
@@ -46,8 +50,8 @@ fn numbers(line: Line) -> [u64; 4]
 /// Returns whether there was room: fewer than four entries are left as they were.
 #[unsafe(no_mangle)]
 pub extern "C" fn kavlugtai_judge(bytes: &[u8], answer: &mut [u64]) -> bool
-    ensures room { result ≡ leb 4 (length answer.old) }
-    ensures after { answer.new ≡ cond result (numbers_of (line_of bytes.now) ++ drop 4 answer.old) answer.old }
+    ensures room { result ≡ nat_le 4 (length answer.old) }
+    ensures after { answer.new ≡ (if result then numbers_of (line_of bytes.now) ++ drop 4 answer.old else answer.old) }
 {
     if answer.len() < 4 {
         return false;
