@@ -1,8 +1,8 @@
 //! What the judge answers at its corners.
 
 use feed::Refusal;
-use judging::{Judge, Line, RunAnswer, StepAnswer, judge_file};
-use model::{Outcome, Reason};
+use judging::{Judge, Line, RunAnswer, judge_file};
+use model::{Outcome, Reason, UnlawfulRecord};
 use std::test::Fail;
 use trace_file::TraceFile;
 
@@ -17,11 +17,11 @@ fn a_file_is_judged(rt: HostRuntime) {
     assert!(rt;
         matches!(
             judge_file(&GONE),
-            Line::Unlawful {
+            Line::Unlawful(UnlawfulRecord {
                 thread: 1,
                 index: 1,
                 reason: Reason::InitialGone
-            }
+            })
         )
     );
     assert!(rt;
@@ -35,19 +35,35 @@ fn a_file_is_judged(rt: HostRuntime) {
 #[test]
 fn budgets_and_steps(rt: HostRuntime) -> Result<(), Fail> {
     let mut judge = Judge::open(TraceFile::open(&GONE).ok().ok_or("refused")?);
-    assert!(rt; matches!(judge.run(0), Ok(RunAnswer::BudgetUsed { taken: 0 })));
-    assert!(rt; matches!(judge.step(), Ok(StepAnswer::Taken)));
-    assert!(rt; matches!(judge.run(1), Ok(RunAnswer::BudgetUsed { taken: 1 })));
+    assert!(rt;
+        matches!(
+            judge.run(0),
+            Ok(RunAnswer {
+                outcome: None,
+                taken: 0
+            })
+        )
+    );
+    assert!(rt; matches!(judge.step(), Ok(None)));
+    assert!(rt;
+        matches!(
+            judge.run(1),
+            Ok(RunAnswer {
+                outcome: None,
+                taken: 1
+            })
+        )
+    );
     assert!(rt;
         matches!(
             judge.run(usize::MAX),
-            Ok(RunAnswer::Settled {
+            Ok(RunAnswer {
                 taken: 0,
-                outcome: Outcome::Unlawful {
+                outcome: Some(Outcome::Unlawful(UnlawfulRecord {
                     thread: 1,
                     index: 1,
                     ..
-                }
+                }))
             })
         )
     );

@@ -36,6 +36,7 @@ pub enum Refusal {
 
 impl Refusal {
     /// The number of the refusal.
+    // A match, since `as` takes no enum of which a case carries something.
     pub fn number(self) -> u8
         ensures { result ≡ refusal_number self }
     {

@@ -1,7 +1,6 @@
 //! How a record and a damage cause read for people.
 
-ghost use Rattle.std.specs.Prelude.{◌≡◌, Some};
-ghost use Rattle.record.specs.declared.kinds.Source.TheVariants.{Initial};
+ghost use Rattle.std.specs.Prelude.{Some};
 ghost use Rattle.record.specs.Sentences.{mode_text, source_text, record_text, cause_text};
 
 use crate::causes::Cause;
@@ -14,18 +13,11 @@ impl fmt::Display for Mode {
     ghost output = { λ m. Some (mode_text m) };
 
     fn fmt<W: fmt::Write>(&self, f: &mut fmt::Formatter<W>) -> fmt::Result {
-        match *self {
-            Mode::Relaxed => write!(f, ""),
-            Mode::Strict => write!(f, "strictly "),
-        }
+        f.write_str(match *self {
+            Mode::Relaxed => "",
+            Mode::Strict => "strictly ",
+        })
     }
-}
-
-/// The words for the source of a read that names no write.
-fn initial() -> &'static str
-    ensures { result.now ≡ source_text Initial }
-{
-    "the initial value"
 }
 
 impl fmt::Display for Source {
@@ -33,10 +25,7 @@ impl fmt::Display for Source {
 
     fn fmt<W: fmt::Write>(&self, f: &mut fmt::Formatter<W>) -> fmt::Result {
         match *self {
-            Source::Initial => {
-                let words = initial();
-                write!(f, "{words}")
-            }
+            Source::Initial => write!(f, "the initial value"),
             Source::Write { thread, number } => write!(f, "write {number} of thread {thread}"),
         }
     }
@@ -81,25 +70,17 @@ impl fmt::Display for Record {
     }
 }
 
-/// The cause in words.
-fn words(cause: Cause) -> &'static str
-    ensures { result.now ≡ cause_text cause }
-{
-    match cause {
-        Cause::UnknownKind => "the kind is not 1 to 5",
-        Cause::WrongThread => "the thread is not one of the trace's, or not its log's own",
-        Cause::UnknownAddress => "the address is not one of the trace's",
-        Cause::UnknownMode => "the mode is neither relaxed nor strict",
-        Cause::UnknownSource => "the read names neither the initial value nor a thread's write",
-        Cause::UnusedNotZero => "a field that the kind does not use is not zero",
-    }
-}
-
 impl fmt::Display for Cause {
     ghost output = { λ c. Some (cause_text c) };
 
     fn fmt<W: fmt::Write>(&self, f: &mut fmt::Formatter<W>) -> fmt::Result {
-        let words = words(*self);
-        write!(f, "{words}")
+        f.write_str(match *self {
+            Cause::UnknownKind => "the kind is not 1 to 5",
+            Cause::WrongThread => "the thread is not one of the trace's, or not its log's own",
+            Cause::UnknownAddress => "the address is not one of the trace's",
+            Cause::UnknownMode => "the mode is neither relaxed nor strict",
+            Cause::UnknownSource => "the read names neither the initial value nor a thread's write",
+            Cause::UnusedNotZero => "a field that the kind does not use is not zero",
+        })
     }
 }
