@@ -6,9 +6,7 @@ ghost use Rattle.trace_file.specs.contracts.reading.TraceFileFeed.TheImpl.{ghost
 ghost use Rattle.sites.specs.Together.{both_agree, all_agree, behind_one};
 
 use crate::settings::Settings;
-use crate::visits::{
-    at_the_bottom, behind_a_rotation, behind_a_table, behind_refused_ones, deep_down,
-};
+use crate::visits::Visits;
 use driving::agree;
 use feed::Feed;
 use model::Outcome;
@@ -32,23 +30,19 @@ fn both_agree(a: Option<Outcome>, b: Option<Outcome>) -> bool
 fn all_agree(first: Option<Outcome>, others: &[Option<Outcome>]) -> bool
     ensures { result ≡ all_agree first others.now }
 {
-    for other in others {
-        if !both_agree(first, *other) {
-            return false;
-        }
-    }
-    true
+    others.iter().all(|other| both_agree(first, *other))
 }
 
 /// Sends what the file still delivers through every pile, prints each site, and returns whether all agree.
 fn visit(rt: &HostRuntime, file: TraceFile<'_>, set: &Settings, budget: usize) -> io::Result<bool>
     ensures { IfOk result (λ same. (length (feed_of.meaning file.entry).waiting < budget → same ≡ true)) }
 {
-    let bottom = at_the_bottom(rt, file, budget)?;
-    let rotated = behind_a_rotation(rt, file, set, budget)?;
-    let tabled = behind_a_table(rt, file, set, budget)?;
-    let deep = deep_down(rt, file, set, budget)?;
-    let refused = behind_refused_ones(rt, file, set, budget)?;
+    let visits = Visits { rt, set, budget };
+    let bottom = visits.at_the_bottom(file)?;
+    let rotated = visits.behind_a_rotation(file)?;
+    let tabled = visits.behind_a_table(file)?;
+    let deep = visits.deep_down(file)?;
+    let refused = visits.behind_refused_ones(file)?;
     Ok(all_agree(bottom, &[rotated, tabled, deep, refused]))
 }
 

@@ -1,72 +1,48 @@
 //! The piles that a trace is sent through: what a judge on each of them answers to one run.
 
-ghost use Rattle.std.specs.Prelude.{Some};
 ghost use Rattle.feed.specs.Pile.{on, holds_back};
 ghost use Rattle.judging.specs.Sites.{TellsBottom};
-ghost use Rattle.driving.specs.Calls.{outcome_in};
-ghost use Rattle.relay.specs.Renames.{threads_by, addresses_by};
-ghost use Rattle.renaming.specs.contracts.rotation.RotationRenaming.TheImpl.{ghosts as rotation_ways};
-ghost use Rattle.renaming.specs.contracts.table.TableRenaming.TheImpl.{ghosts as table_ways};
 
-use driving::{Answer, run_once};
+use crate::settings::Settings;
+use driving::run_once;
 use feed::Feed;
-use hold_back::HoldBack;
-use relay::{AddressRelay, ThreadRelay};
+use hold_back::{Hold, HoldBack};
+use judging::RunAnswer;
+use relay::{Addresses, Renames, RenamingRelay, Setting, Threads};
 use renaming::{Rotation, Table};
 
-/// How many records of which thread are held back.
-#[derive(Clone, Copy)]
-pub struct Hold {
-    pub thread: u8,
-    pub capacity: u8,
-}
-
-/// Judges the feed with its threads turned round.
-pub fn rotated<F: Feed + Drop>(feed: F, rotation: Rotation, budget: usize) -> Answer
-    ensures { F.Feed.unread feed → TellsBottom (on (threads_by rotation_ways rotation) (F.Feed.pile feed)) budget (outcome_in (Some result)) }
+/// Judges the feed under other names.
+pub fn renamed<F: Feed + Drop, S: Renames + Drop>(feed: F, names: S, budget: usize) -> RunAnswer
+    ensures { F.Feed.unread feed → TellsBottom (on (S.relay names) (F.Feed.pile feed)) budget result.outcome }
 {
-    run_once(ThreadRelay::put_on(feed, rotation), budget)
+    run_once(RenamingRelay::put_on(feed, names), budget)
 }
 
 /// Judges the feed with some of a thread's records held back.
-pub fn held<F: Feed + Drop>(feed: F, hold: Hold, budget: usize) -> Answer
-    ensures { F.Feed.unread feed → TellsBottom (on (holds_back hold.thread hold.capacity) (F.Feed.pile feed)) budget (outcome_in (Some result)) }
+fn held<F: Feed + Drop>(feed: F, hold: Hold, budget: usize) -> RunAnswer
+    ensures { F.Feed.unread feed → TellsBottom (on (holds_back hold.thread hold.capacity) (F.Feed.pile feed)) budget result.outcome }
 {
-    run_once(HoldBack::put_on(feed, hold.thread, hold.capacity), budget)
+    run_once(HoldBack::put_on(feed, hold), budget)
 }
 
-/// Judges the feed with its threads under the names of a table, and then some records held back.
-pub fn tabled_and_held<F: Feed + Drop>(feed: F, table: Table, hold: Hold, budget: usize) -> Answer
-    ensures { F.Feed.unread feed → TellsBottom (on (holds_back hold.thread hold.capacity) (on (threads_by table_ways table) (F.Feed.pile feed))) budget (outcome_in (Some result)) }
-{
-    held(ThreadRelay::put_on(feed, table), hold, budget)
-}
-
-/// Judges the feed with its threads turned round, and then some records held back.
-pub fn rotated_and_held<F: Feed + Drop>(
+/// Judges the feed under other names, and then with some of a thread's records held back.
+pub fn renamed_and_held<F: Feed + Drop, S: Renames + Drop>(
     feed: F,
-    rotation: Rotation,
+    names: S,
     hold: Hold,
     budget: usize,
-) -> Answer
-    ensures { F.Feed.unread feed → TellsBottom (on (holds_back hold.thread hold.capacity) (on (threads_by rotation_ways rotation) (F.Feed.pile feed))) budget (outcome_in (Some result)) }
+) -> RunAnswer
+    ensures { F.Feed.unread feed → TellsBottom (on (holds_back hold.thread hold.capacity) (on (S.relay names) (F.Feed.pile feed))) budget result.outcome }
 {
-    held(ThreadRelay::put_on(feed, rotation), hold, budget)
+    held(RenamingRelay::put_on(feed, names), hold, budget)
 }
 
 /// Judges the feed through five relays: its threads turned round, some records held back, its threads under the names of a table, its addresses turned round, and some records held back.
-pub fn deep<F: Feed + Drop>(
-    feed: F,
-    rotation: Rotation,
-    table: Table,
-    addresses: Rotation,
-    hold: Hold,
-    budget: usize,
-) -> Answer
-    ensures { F.Feed.unread feed → TellsBottom (on (holds_back hold.thread hold.capacity) (on (addresses_by rotation_ways addresses) (on (threads_by table_ways table) (on (holds_back hold.thread hold.capacity) (on (threads_by rotation_ways rotation) (F.Feed.pile feed)))))) budget (outcome_in (Some result)) }
+pub fn deep<F: Feed + Drop>(feed: F, set: &Settings, hold: Hold, budget: usize) -> RunAnswer
+    ensures { F.Feed.unread feed → TellsBottom (on (holds_back hold.thread hold.capacity) (on (⟦<Addresses<Rotation> as Setting>⟧.relay set.now.shift) (on (⟦<Threads<Table> as Setting>⟧.relay set.now.names) (on (holds_back hold.thread hold.capacity) (on (⟦<Threads<Rotation> as Setting>⟧.relay set.now.turn) (F.Feed.pile feed)))))) budget result.outcome }
 {
-    let turned = ThreadRelay::put_on(feed, rotation);
-    let behind = HoldBack::put_on(turned, hold.thread, hold.capacity);
-    let named = ThreadRelay::put_on(behind, table);
-    held(AddressRelay::put_on(named, addresses), hold, budget)
+    let turned = RenamingRelay::put_on(feed, set.turn);
+    let behind = HoldBack::put_on(turned, hold);
+    let named = RenamingRelay::put_on(behind, set.names);
+    renamed_and_held(named, set.shift, hold, budget)
 }

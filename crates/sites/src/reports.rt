@@ -1,25 +1,20 @@
 //! What is printed of a site.
 
-ghost use Rattle.std.specs.Prelude.{◌≡◌, length, IfOk, Some};
-ghost use Rattle.driving.specs.Calls.{outcome_in};
-ghost use Rattle.sites.specs.Reported.{thread_named, with_thread};
+ghost use Rattle.std.specs.Prelude.{◌≡◌, IfOk};
+ghost use Rattle.sites.specs.Reported.{named_thread, with_thread};
 
-use driving::Answer;
 use feed::Refusal;
-use judging::line;
-use model::Outcome;
+use judging::{RunAnswer, line};
+use model::{Outcome, UnlawfulRecord};
 use relay::shown_number;
-use std::io;
+use std::{fmt, io};
 
-/// The thread that the answer names, and 0 where it names none.
-pub fn named_thread(answer: Answer) -> u8
-    ensures { result ≡ thread_named answer }
+/// The thread that the outcome names, and 0 where it names none.
+pub fn named_thread(outcome: Option<Outcome>) -> u8
+    ensures { result ≡ named_thread outcome }
 {
-    match answer {
-        Answer::Settled {
-            outcome: Outcome::Unlawful { thread, .. },
-            ..
-        } => thread,
+    match outcome {
+        Some(Outcome::Unlawful(UnlawfulRecord { thread, .. })) => thread,
         _ => 0,
     }
 }
@@ -29,51 +24,55 @@ fn with_thread(outcome: Outcome, thread: u8) -> Outcome
     ensures { result ≡ with_thread outcome thread }
 {
     match outcome {
-        Outcome::Unlawful { index, reason, .. } => Outcome::Unlawful {
-            thread,
-            index,
-            reason,
-        },
+        Outcome::Unlawful(found) => Outcome::Unlawful(UnlawfulRecord { thread, ..found }),
         other => other,
     }
 }
 
-/// Prints what each relay shows, one number after the other, and returns how many there are.
-fn print_shown(rt: &HostRuntime, shows: &[Option<Refusal>]) -> io::Result<usize>
-    ensures { IfOk result (λ n. n ≡ length shows.now) }
-{
-    for shown in shows {
-        let number = shown_number(*shown);
-        print!(rt; " {number}")?;
-    }
-    Ok(shows.len())
+/// What there is to say of a site.
+pub struct Site<'a> {
+    /// Its pile in words.
+    pub name: &'a str,
+    /// What each relay shows, from the bottom up.
+    pub shows: &'a [Option<Refusal>],
+    /// What the judge answered there.
+    pub answer: RunAnswer,
+    /// The bottom's name of the thread that the outcome names.
+    pub bottom: u8,
 }
 
-/// Prints a site: its pile, what each relay shows from the bottom up, the outcome as it was told and, if that names a record, with the thread's name at the bottom. Returns the outcome that was told.
-pub fn print_site(
-    rt: &HostRuntime,
-    name: &str,
-    shows: &[Option<Refusal>],
-    answer: Answer,
-    bottom: u8,
-) -> io::Result<Option<Outcome>>
-    ensures { IfOk result (λ o. o ≡ outcome_in (Some answer)) }
+impl fmt::Display for Site<'_> {
+    fn fmt<W: fmt::Write>(&self, f: &mut fmt::Formatter<W>) -> fmt::Result {
+        f.write_str(self.name)?;
+        if !self.shows.is_empty() {
+            f.write_str(", shows")?;
+        }
+        for shown in self.shows {
+            write!(f, " {}", shown_number(*shown))?;
+        }
+        let RunAnswer {
+            outcome: Some(outcome),
+            taken,
+        } = self.answer
+        else {
+            return f.write_str(": no outcome");
+        };
+        write!(f, ": {}", line(outcome, taken))?;
+        if matches!(outcome, Outcome::Unlawful(_)) {
+            write!(
+                f,
+                "; at the bottom {}",
+                line(with_thread(outcome, self.bottom), taken)
+            )?;
+        }
+        Ok(())
+    }
+}
+
+/// Prints a line for the site: its pile, what each relay shows from the bottom up, the outcome as it was told and, if that names a record, with the thread's name at the bottom. Returns the outcome that was told.
+pub fn print_site(rt: &HostRuntime, site: &Site<'_>) -> io::Result<Option<Outcome>>
+    ensures { IfOk result (λ o. o ≡ site.now.answer.outcome) }
 {
-    print!(rt; "{name}")?;
-    if !shows.is_empty() {
-        print!(rt; ", shows")?;
-        let _relays = print_shown(rt, shows)?;
-    }
-    let Answer::Settled { outcome, taken } = answer else {
-        println!(rt; ": no outcome")?;
-        return Ok(None);
-    };
-    let told = line(outcome, taken);
-    print!(rt; ": {told}")?;
-    if let Outcome::Unlawful { .. } = outcome {
-        let below = line(with_thread(outcome, bottom), taken);
-        print!(rt; "; at the bottom {below}")?;
-    }
-    println!(rt; "")?;
-    Ok(Some(outcome))
+    println!(rt; "{site}")?;
+    Ok(site.answer.outcome)
 }

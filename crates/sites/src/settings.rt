@@ -8,6 +8,7 @@ ghost use Rattle.sites.specs.Settings.{down_from};
 
 use feed::Refusal;
 use record::Counts;
+use relay::{Addresses, Threads};
 use renaming::{Rotation, Table};
 
 /// As many threads as there can be, the last first.
@@ -17,13 +18,13 @@ const DOWN: [u8; 8] = [7, 6, 5, 4, 3, 2, 1, 0];
 #[derive(Clone, Copy)]
 pub struct Settings {
     /// Every thread by one further.
-    pub turn: Rotation,
+    pub turn: Threads<Rotation>,
     /// Every address by five further.
-    pub shift: Rotation,
+    pub shift: Addresses<Rotation>,
     /// A rotation for more threads than there can be.
-    pub wide: Rotation,
+    pub wide: Threads<Rotation>,
     /// The threads the other way round.
-    pub names: Table,
+    pub names: Threads<Table>,
 }
 
 /// The table that turns so many numbers the other way round, if there are 1 to 8.
@@ -43,14 +44,14 @@ impl Settings {
     /// Refuses counts that are not 1 to 64.
     pub fn of(counts: Counts) -> Result<Settings, Refusal>
         ensures test { is_ok result ≡ (allowed counts.threads && allowed counts.addresses) }
-        ensures settings { IfOk result (λ s. Rotates s.turn counts.threads 1 × Rotates s.shift counts.addresses 5 × Rotates s.wide 64 1) }
-        ensures names { IfOk result (λ s. (is_table (drop (8 - counts.threads) (down_from 8)) ≡ true → HasEntries s.names (drop (8 - counts.threads) (down_from 8)))) }
+        ensures settings { IfOk result (λ s. Rotates s.turn.0 counts.threads 1 × Rotates s.shift.0 counts.addresses 5 × Rotates s.wide.0 64 1) }
+        ensures names { IfOk result (λ s. (is_table (drop (8 - counts.threads) (down_from 8)) ≡ true → HasEntries s.names.0 (drop (8 - counts.threads) (down_from 8)))) }
     {
         Ok(Settings {
-            turn: Rotation::new(counts.threads, 1)?,
-            shift: Rotation::new(counts.addresses, 5)?,
-            wide: Rotation::new(64, 1)?,
-            names: backwards(counts.threads),
+            turn: Threads(Rotation::new(counts.threads, 1)?),
+            shift: Addresses(Rotation::new(counts.addresses, 5)?),
+            wide: Threads(Rotation::new(64, 1)?),
+            names: Threads(backwards(counts.threads)),
         })
     }
 }
