@@ -10,8 +10,7 @@ pub fn deeper(damage: Damage) -> Damage
     ensures { result ≡ deepened damage }
 {
     Damage {
-        cause: damage.cause,
-        place: damage.place,
         depth: damage.depth.saturating_add(1),
+        ..damage
     }
 }

@@ -3,13 +3,14 @@
 
 mod addresses;
 mod deepening;
-mod putting_on;
-mod settings;
+mod relaying;
+mod showing;
 mod threads;
-mod undoing;
+mod traits;
 
-pub use addresses::AddressRelay;
+pub use addresses::Addresses;
 pub use deepening::deeper;
-pub use settings::{address_settings, shown_number, thread_settings};
-pub use threads::ThreadRelay;
-pub use undoing::thread_below;
+pub use relaying::{AddressRelay, RenamingRelay, ThreadRelay};
+pub use showing::shown_number;
+pub use threads::Threads;
+pub use traits::{Renames, Setting};

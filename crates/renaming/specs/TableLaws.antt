@@ -84,14 +84,14 @@ all-stand xs f n h =
 
 -- Places ----------------------------------------------------------------------------------------------------------------
 
-pub place-hit : (n x : ℕ) (xs : List ℕ) → x ≡ n → place_of (x ∷ xs) n ≡ 0
+place-hit : (n x : ℕ) (xs : List ℕ) → x ≡ n → place_of (x ∷ xs) n ≡ 0
 place-hit n x xs e = cond-true (x == n) 0 (suc (place_of xs n)) (eq-eqb x n e)
 
-pub place-miss : (n x : ℕ) (xs : List ℕ) → (x ≢ n) → place_of (x ∷ xs) n ≡ suc (place_of xs n)
+place-miss : (n x : ℕ) (xs : List ℕ) → (x ≢ n) → place_of (x ∷ xs) n ≡ suc (place_of xs n)
 place-miss n x xs e = cond-false (x == n) 0 (suc (place_of xs n)) (ne_eqb x n e)
 
 -- a number stands at its place
-pub at_its_place : (xs : List ℕ) (n : ℕ) → stands n xs ≡ true → (place_of xs n < length xs) × (slice_index xs (place_of xs n) ≡ n)
+at_its_place : (xs : List ℕ) (n : ℕ) → stands n xs ≡ true → (place_of xs n < length xs) × (slice_index xs (place_of xs n) ≡ n)
 at_its_place [] n e = absurd (both_ways false refl e)
 at_its_place (x ∷ xs) n e =
     ⊎_elim (λ (q : x ≡ n). let p = place-hit n x xs q in (omega arith, ap (λ k. slice_index (x ∷ xs) k) p ∙ q))
@@ -100,7 +100,7 @@ at_its_place (x ∷ xs) n e =
     let rest = at_its_place xs n (ap (λ b. b || stands n xs) (sym (ne_eqb x n q)) ∙ e) in
     (omega arith, ap (λ k. slice_index (x ∷ xs) k) p ∙ rest.1)) (cases_eq x n)
 
-pub stands_at : (xs : List ℕ) (k : ℕ) → k < length xs → stands (slice_index xs k) xs ≡ true
+stands_at : (xs : List ℕ) (k : ℕ) → k < length xs → stands (slice_index xs k) xs ≡ true
 stands_at [] k h = absurd (let no : ⊥ = omega arith in no)
 stands_at (x ∷ xs) zero h = or_left (x == x) (stands x xs) (eq-eqb x x refl)
 stands_at (x ∷ xs) (suc k) h = or_right (x == slice_index xs k) (stands (slice_index xs k) xs) (stands_at xs k (omega arith))
@@ -123,10 +123,10 @@ entry-below c (x ∷ xs) f (suc k) h = entry-below c xs f.2 k (omega arith)
 
 -- The laws --------------------------------------------------------------------------------------------------------------
 
-name_in : (xs : List ℕ) (n : ℕ) → n < length xs → name_of xs n ≡ slice_index xs n
+pub name_in : (xs : List ℕ) (n : ℕ) → n < length xs → name_of xs n ≡ slice_index xs n
 name_in xs n h = cond-true (nat_lt n (length xs)) (slice_index xs n) n (lt-ltb n (length xs) h)
 
-named_in : (xs : List ℕ) (n : ℕ) → n < length xs → named_by xs n ≡ place_of xs n
+pub named_in : (xs : List ℕ) (n : ℕ) → n < length xs → named_by xs n ≡ place_of xs n
 named_in xs n h = cond-true (nat_lt n (length xs)) (place_of xs n) n (lt-ltb n (length xs) h)
 
 name_below : (xs : List ℕ) → Fresh (length xs) xs → (n : ℕ) → n < length xs → name_of xs n < length xs
@@ -144,9 +144,12 @@ renames xs f =
       there_back = λ n h. name_in xs (named_by xs n) (place-below xs f n h) ∙ (ap (λ k. slice_index xs k) (named_in xs n h) ∙ (at_its_place xs n (all-stand xs f n h)).1);
     }
 
--- the entries that count are a renaming, where they make a table
+-- entries that make a table are a renaming
+pub renames_by : (xs : List ℕ) → is_table xs ≡ true → Renaming (length xs) (name_of xs) (named_by xs)
+renames_by xs e = renames xs (fresh (length xs) xs (and_parts (allowed (length xs)) (each_once_below (length xs) xs) e).1)
+
+-- and so are those of an array that count
 pub table_laws : (entries : List ℕ) (count : ℕ) → length entries ≡ 64 → count ≤ 64 → is_table (take count entries) ≡ true → Renaming count (name_of (take count entries)) (named_by (take count entries))
 table_laws entries count whole few e =
     let xs = take count entries in
-    let p = and_parts (allowed (length xs)) (each_once_below (length xs) xs) e in
-    subst (λ c. Renaming c (name_of xs) (named_by xs)) (length-take-le count entries (omega arith)) (renames xs (fresh (length xs) xs p.1))
+    subst (λ c. Renaming c (name_of xs) (named_by xs)) (length-take-le count entries (omega arith)) (renames_by xs e)

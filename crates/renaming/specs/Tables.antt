@@ -1,5 +1,5 @@
 -- A renaming by a table: the new names of 0, 1, 2 and so on, in this order.
-use Rattle.std.specs.Prelude.{ℕ, suc, Bool, true, false, cond, not, ◌&&◌, ◌||◌, List, [], ◌∷◌, length, ◌==◌, nat_lt, slice_index}
+use Rattle.std.specs.Prelude.{◌≡◌, ℕ, suc, ◌<◌, Bool, true, false, cond, not, ◌&&◌, ◌||◌, List, [], ◌∷◌, length, Option, MatchOption, ◌==◌, nat_lt, slice_index}
 use Rattle.renaming.specs.Counts.{allowed}
 
 -- the number stands among the entries
@@ -28,3 +28,7 @@ place_of (x ∷ xs) n = cond (x == n) 0 (suc (place_of xs n))
 -- the number that has this new name, below the count; any other stays
 abbrev pub named_by : List ℕ → ℕ → ℕ
 named_by entries n = cond (nat_lt n (length entries)) (place_of entries n) n
+
+-- the number that has this new name, or nothing where this one stays
+abbrev pub IsNamed : List ℕ → ℕ → Option ℕ → Type 0
+IsNamed entries n o = MatchOption o (named_by entries n ≡ n) (λ k. (named_by entries n ≡ k) × (k < length entries))

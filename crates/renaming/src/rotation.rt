@@ -14,15 +14,16 @@ pub struct Rotation {
     ghost few: { count ≤ 64 },
 }
 
-/// Where `n` stands after a turn by so many places; a number that is not below the count stays.
-fn turned(count: u8, by: u8, n: u8) -> u8
-    requires { 0 < count }
-    ensures { result ≡ rotated count by n }
-{
-    if n >= count {
-        return n;
+impl Rotation {
+    /// Where `n` stands after a turn by so many places; a number that is not below the count stays.
+    fn turned(&self, by: u8, n: u8) -> u8
+        ensures { result ≡ rotated self.now.count by n }
+    {
+        if n >= self.count {
+            return n;
+        }
+        ((u16::from(n) + u16::from(by)) % u16::from(self.count)) as u8
     }
-    ((u16::from(n) + u16::from(by)) % u16::from(count)) as u8
 }
 
 impl Renaming for Rotation {
@@ -39,10 +40,10 @@ impl Renaming for Rotation {
     }
 
     fn there(&self, n: u8) -> u8 {
-        turned(self.count, self.by, n)
+        self.turned(self.by, n)
     }
 
     fn back(&self, n: u8) -> u8 {
-        turned(self.count, self.count - self.by % self.count, n)
+        self.turned(self.count - self.by % self.count, n)
     }
 }

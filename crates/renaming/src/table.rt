@@ -1,7 +1,7 @@
 //! A renaming by a table of new names.
 
 ghost use Rattle.std.specs.Prelude.{◌≡◌, ◌≤◌, true, length, take};
-ghost use Rattle.renaming.specs.Tables.{is_table, name_of, named_by};
+ghost use Rattle.renaming.specs.Tables.{is_table, name_of, named_by, IsNamed};
 ghost use Rattle.renaming.specs.TableLaws.{table_laws};
 
 use crate::entries::place_of;
@@ -10,6 +10,7 @@ use crate::traits::Renaming;
 /// The new names of the numbers below `count`, in their order: each is below `count`, and none stands twice.
 #[derive(Clone, Copy)]
 pub struct Table {
+    // An array with its length beside it, since a table is copied and nothing is allocated.
     pub(crate) entries: [u8; 64],
     pub(crate) count: u8,
     ghost whole: { length entries ≡ 64 },
@@ -22,7 +23,14 @@ impl Table {
     fn names(&self) -> &[u8]
         ensures { result.now ≡ take self.now.count self.now.entries }
     {
-        &self.entries[0..self.count as usize]
+        &self.entries[..usize::from(self.count)]
+    }
+
+    /// The number whose new name is `n`, or nothing where `n` keeps its name.
+    fn named(&self, n: u8) -> Option<usize>
+        ensures { IsNamed (take self.now.count self.now.entries) n result }
+    {
+        place_of(self.names(), n)
     }
 }
 
@@ -40,18 +48,10 @@ impl Renaming for Table {
     }
 
     fn there(&self, n: u8) -> u8 {
-        if n < self.count {
-            self.names()[n as usize]
-        } else {
-            n
-        }
+        self.names().get(usize::from(n)).copied().unwrap_or(n)
     }
 
     fn back(&self, n: u8) -> u8 {
-        if n < self.count {
-            place_of(self.names(), n) as u8
-        } else {
-            n
-        }
+        self.named(n).map_or(n, |place| place as u8)
     }
 }

@@ -29,3 +29,26 @@ pub trait Renaming {
     fn back(&self, n: u8) -> u8
         ensures { result ≡ backward self.now n };
 }
+
+/// A renaming that is lent renames as its owner does.
+impl<R: Renaming> Renaming for &R {
+    ghost total = { λ s. R.Renaming.total s.now };
+
+    ghost onward = { λ s. R.Renaming.onward s.now };
+
+    ghost backward = { λ s. R.Renaming.backward s.now };
+
+    ghost laws = { λ s. R.Renaming.laws s.now };
+
+    fn count(&self) -> u8 {
+        (**self).count()
+    }
+
+    fn there(&self, n: u8) -> u8 {
+        (**self).there(n)
+    }
+
+    fn back(&self, n: u8) -> u8 {
+        (**self).back(n)
+    }
+}
