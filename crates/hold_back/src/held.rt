@@ -9,6 +9,7 @@ use record::{Counts, FenceRecord, Record};
 use std::marker::Model;
 
 /// A record that is held, or one that fills a free place of the queue.
+// The queue fills its free places with a default, which a record by itself does not have.
 #[derive(Drop)]
 pub(crate) struct Kept(pub(crate) Record);
 

@@ -50,13 +50,11 @@ impl Held {
         ensures rest { KeepsRest self.old self.new }
         ensures held { held_records self.old ++ («record» ∷ []) ≡ result ∷ held_records self.new }
     {
-        match self.let_go() {
-            Some(oldest) => {
-                self.join(record);
-                oldest
-            }
-            None => record,
-        }
+        let Some(oldest) = self.let_go() else {
+            return record;
+        };
+        self.join(record);
+        oldest
     }
 
     /// Lets go of the oldest record held, behind which this one is stalled, or of this one if none is held.
