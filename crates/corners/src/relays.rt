@@ -7,9 +7,9 @@ ghost use Rattle.feed.specs.Pile.{bottom};
 ghost use Rattle.corners.specs.Broken.{broken_meaning, broken_sound};
 
 use feed::{Feed, Refusal};
-use hold_back::HoldBack;
+use hold_back::{Hold, HoldBack};
 use record::{Cause, Counts, Damage, Record};
-use relay::{AddressRelay, ThreadRelay, shown_number, thread_below};
+use relay::{Addresses, RenamingRelay, Setting, Threads, shown_number};
 use renaming::{Rotation, Table};
 use std::test::Fail;
 use trace_file::TraceFile;
@@ -78,13 +78,25 @@ fn next_threads<F: Feed>(feed: &mut F) -> [u8; 5]
 #[test]
 fn depths_stop_at_255(rt: HostRuntime) -> Result<(), Fail> {
     let turn = Rotation::new(1, 3)?;
-    let low = ThreadRelay::put_on(Broken { depth: 254 }, turn);
-    let mut high = AddressRelay::put_on(low, turn);
+    let low = RenamingRelay::put_on(Broken { depth: 254 }, Threads(turn));
+    let mut high = RenamingRelay::put_on(low, Addresses(turn));
     assert!(rt; matches!(high.next(), Err(Damage { depth: 255, .. })));
-    let low = HoldBack::put_on(Broken { depth: 255 }, 0, 17);
-    let mut high = ThreadRelay::put_on(low, turn);
+    let low = HoldBack::put_on(
+        Broken { depth: 255 },
+        Hold {
+            thread: 0,
+            capacity: 17,
+        },
+    );
+    let mut high = RenamingRelay::put_on(low, Threads(turn));
     assert!(rt; matches!(high.next(), Err(Damage { depth: 255, .. })));
-    let mut one = HoldBack::put_on(Broken { depth: 0 }, 0, 1);
+    let mut one = HoldBack::put_on(
+        Broken { depth: 0 },
+        Hold {
+            thread: 0,
+            capacity: 1,
+        },
+    );
     assert!(rt; matches!(one.next(), Err(Damage { depth: 1, .. })));
     Ok(())
 }
@@ -92,18 +104,18 @@ fn depths_stop_at_255(rt: HostRuntime) -> Result<(), Fail> {
 #[test]
 fn relays_over_refused_ones(rt: HostRuntime) -> Result<(), Fail> {
     let file = TraceFile::open(TURNS).ok().ok_or("refused")?;
-    let low = ThreadRelay::put_on(file, Rotation::new(3, 1)?);
+    let low = RenamingRelay::put_on(file, Threads(Rotation::new(3, 1)?));
     assert_eq!(rt; shown_number(low.shows()), 7);
     let turn = Rotation::new(2, 7)?;
-    let mut high = ThreadRelay::put_on(low, turn);
+    let mut high = RenamingRelay::put_on(low, Threads(turn));
     assert_eq!(rt; shown_number(high.shows()), 0);
     assert_eq!(rt; next_threads(&mut high), [1, 0, 1, 0, 9]);
-    assert_eq!(rt; thread_below(&turn, high.counts(), 1), 0);
+    assert_eq!(rt; Threads(turn).below(high.counts(), 1), 0);
     let mut names = Table::new();
-    assert_eq!(rt; AddressRelay::put_on(file, names).shows(), None);
+    assert_eq!(rt; RenamingRelay::put_on(file, Addresses(names)).shows(), None);
     names.set(&[1, 0])?;
     assert_eq!(rt;
-        AddressRelay::put_on(file, names).shows(),
+        RenamingRelay::put_on(file, Addresses(names)).shows(),
         Some(Refusal::BadRenaming)
     );
     Ok(())
@@ -112,27 +124,73 @@ fn relays_over_refused_ones(rt: HostRuntime) -> Result<(), Fail> {
 #[test]
 fn one_and_sixteen_are_held(rt: HostRuntime) -> Result<(), Fail> {
     let file = TraceFile::open(TURNS).ok().ok_or("refused")?;
-    let mut one = HoldBack::put_on(file, 0, 1);
+    let mut one = HoldBack::put_on(
+        file,
+        Hold {
+            thread: 0,
+            capacity: 1,
+        },
+    );
     assert_eq!(rt; next_threads(&mut one), [1, 0, 1, 0, 9]);
-    let mut many = HoldBack::put_on(file, 0, 16);
+    let mut many = HoldBack::put_on(
+        file,
+        Hold {
+            thread: 0,
+            capacity: 16,
+        },
+    );
     assert_eq!(rt; next_threads(&mut many), [1, 1, 0, 0, 9]);
-    let mut none = HoldBack::put_on(file, 0, 17);
+    let mut none = HoldBack::put_on(
+        file,
+        Hold {
+            thread: 0,
+            capacity: 17,
+        },
+    );
     assert_eq!(rt; shown_number(none.shows()), 8);
     assert_eq!(rt; next_threads(&mut none), [0, 1, 0, 1, 9]);
-    let mut other = HoldBack::put_on(file, 2, 1);
+    let mut other = HoldBack::put_on(
+        file,
+        Hold {
+            thread: 2,
+            capacity: 1,
+        },
+    );
     assert_eq!(rt; shown_number(other.shows()), 8);
     assert_eq!(rt; next_threads(&mut other), [0, 1, 0, 1, 9]);
-    assert_eq!(rt; shown_number(HoldBack::put_on(file, 1, 0).shows()), 8);
+    assert_eq!(rt;
+        shown_number(HoldBack::put_on(
+            file,
+            Hold {
+                thread: 1,
+                capacity: 0
+            }
+        )
+        .shows()),
+        8
+    );
     Ok(())
 }
 
 #[test]
 fn stalled_at_the_end_and_alone(rt: HostRuntime) -> Result<(), Fail> {
     let file = TraceFile::open(READ).ok().ok_or("refused")?;
-    let mut stalls = HoldBack::put_on(file, 0, 16);
+    let mut stalls = HoldBack::put_on(
+        file,
+        Hold {
+            thread: 0,
+            capacity: 16,
+        },
+    );
     assert_eq!(rt; next_threads(&mut stalls), [0, 1, 9, 9, 9]);
     let file = TraceFile::open(ALONE).ok().ok_or("refused")?;
-    let mut alone = HoldBack::put_on(file, 0, 1);
+    let mut alone = HoldBack::put_on(
+        file,
+        Hold {
+            thread: 0,
+            capacity: 1,
+        },
+    );
     assert_eq!(rt; next_threads(&mut alone), [0, 0, 9, 9, 9]);
     Ok(())
 }

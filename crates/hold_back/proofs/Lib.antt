@@ -1,5 +1,4 @@
-pub mod Queueing
-pub mod Checks
 pub mod Hindrance
+pub mod Checks
 pub mod TakingIn
 pub mod Holds

@@ -1,15 +1,11 @@
 -- What a hold-back relay means, also half-way: with the records that it holds, the oldest first, and the one that is stalled, if one is.
-use Rattle.std.specs.Prelude.{ℕ, Bool, true, cond, ◌&&◌, List, [], ◌∷◌, take, is_ok, Some, None, Option, ◌==◌}
+use Rattle.std.specs.Prelude.{ℕ, Bool, true, cond, ◌&&◌, List, [], ◌∷◌, is_ok, Some, None, Option, ◌==◌}
 use Rattle.record.specs.declared.kinds.Counts.{Counts}
 use Rattle.record.specs.declared.kinds.Record.{Record}
 use Rattle.record.specs.WellMade.{checked}
 use Rattle.model.specs.HoldBack.{stalled, held_back}
 use Rattle.feed.specs.Meaning.{Meaning}
 use Rattle.feed.specs.Pile.{can_hold, deeper_ending}
-
--- the first so many of the slots
-abbrev pub queued : List Record → ℕ → List Record
-queued slots n = take n slots
 
 -- every record of the list is well made; and so is the one that is stalled
 abbrev pub all_checked : Counts → List Record → Bool

@@ -7,28 +7,27 @@ ghost use Rattle.hold_back.specs.Held.{held_records, is_holding, held_meaning};
 ghost use Rattle.hold_back.specs.HoldSound.{hold_sound, hold_opens};
 
 use crate::held::Held;
-use crate::settings::hold_settings;
+use crate::hold::Hold;
 use feed::{Feed, Refusal};
 use record::{Counts, Damage, Record};
-use relay::deeper;
+use relay::{Setting, deeper};
 
-/// A feed that holds back up to `capacity` records of one thread.
+/// A feed that holds back up to so many records of one thread.
 ///
 /// With a record stalled it asks nothing below: it delivers the oldest held, or the stalled one if none is held. Otherwise it asks below. A record of the thread joins the held ones, and it asks again; if there is no room, the oldest is delivered. Another thread's record is delivered if it may pass all that is held, else it stalls and the oldest held is delivered. At an ending it delivers the oldest held, or the ending if none is held.
 #[derive(Drop)]
 pub struct HoldBack<F> {
     pub(crate) feed: F,
-    pub(crate) thread: u8,
-    pub(crate) capacity: u8,
+    pub(crate) hold: Hold,
     pub(crate) held: Held,
 }
 
 impl<F: Feed> HoldBack<F> {
     /// The refusal of its settings, or nothing where there is such a thread and the capacity is 1 to 16.
     pub fn shows(&self) -> Option<Refusal>
-        ensures { result ≡ shown (F.Feed.meaning self.now.feed).counts (holds_back self.now.thread self.now.capacity) }
+        ensures { result ≡ shown (F.Feed.meaning self.now.feed).counts (holds_back self.now.hold.thread self.now.hold.capacity) }
     {
-        hold_settings(self.thread, self.capacity, self.feed.counts())
+        self.hold.shows(self.feed.counts())
     }
 
     /// Its settings are good, and what it holds is of this feed.
@@ -43,10 +42,7 @@ impl<F: Feed> HoldBack<F> {
         requires { is_holding F.Feed.meaning self.old ≡ false }
         ensures { Asked (held_meaning F.Feed.meaning self.old) result (held_meaning F.Feed.meaning self.new) }
     {
-        match self.feed.next() {
-            Ok(next) => Ok(next),
-            Err(damage) => Err(deeper(damage)),
-        }
+        self.feed.next().map_err(|damage| deeper(damage))
     }
 
     /// The next record, with nothing stalled.
@@ -55,19 +51,17 @@ impl<F: Feed> HoldBack<F> {
         ensures { Asked (held_meaning F.Feed.meaning self.old) result (held_meaning F.Feed.meaning self.new) }
     {
         loop {
-            match self.feed.next() {
-                Ok(Some(record)) => {
-                    if let Some(out) = self.held.take_in(self.thread, self.capacity, record) {
-                        return Ok(Some(out));
-                    }
-                }
-                Ok(None) => return Ok(self.held.let_go()),
-                Err(damage) => {
-                    return match self.held.let_go() {
-                        Some(record) => Ok(Some(record)),
-                        None => Err(deeper(damage)),
-                    };
-                }
+            let next = self.feed.next();
+            let Ok(Some(record)) = next else {
+                let oldest = self.held.let_go();
+                return if oldest.is_some() {
+                    Ok(oldest)
+                } else {
+                    next.map_err(|damage| deeper(damage))
+                };
+            };
+            if let Some(out) = self.held.take_in(self.hold, record) {
+                return Ok(Some(out));
             }
         }
     }
@@ -76,11 +70,11 @@ impl<F: Feed> HoldBack<F> {
 impl<F: Feed> Feed for HoldBack<F> {
     ghost meaning = { λ s. held_meaning F.Feed.meaning s };
 
-    ghost pile = { λ s. on (holds_back s.thread s.capacity) (F.Feed.pile s.feed) };
+    ghost pile = { λ s. on (holds_back s.hold.thread s.hold.capacity) (F.Feed.pile s.feed) };
 
     ghost unread = { λ s. F.Feed.unread s.feed × (s.held.counts ≡ (F.Feed.meaning s.feed).counts) × (held_records s.held ≡ []) × (s.held.stalled ≡ None) };
 
-    ghost laws = { record { sound = λ s. hold_sound s.thread s.capacity s.held.counts (held_records s.held) s.held.stalled (F.Feed.meaning s.feed) s.held.held_well_made s.held.stalled_well_made (F.Feed.laws.sound s.feed); proper = λ s u. (tt, F.Feed.laws.proper s.feed u.0); opens = λ s u. hold_opens s.thread s.capacity s.held.counts (held_records s.held) s.held.stalled (F.Feed.meaning s.feed) (F.Feed.pile s.feed) u.1 u.2 u.3 (F.Feed.laws.opens s.feed u.0) } };
+    ghost laws = { record { sound = λ s. hold_sound s.hold.thread s.hold.capacity s.held.counts (held_records s.held) s.held.stalled (F.Feed.meaning s.feed) s.held.held_well_made s.held.stalled_well_made (F.Feed.laws.sound s.feed); proper = λ s u. (tt, F.Feed.laws.proper s.feed u.0); opens = λ s u. hold_opens s.hold.thread s.hold.capacity s.held.counts (held_records s.held) s.held.stalled (F.Feed.meaning s.feed) (F.Feed.pile s.feed) u.1 u.2 u.3 (F.Feed.laws.opens s.feed u.0) } };
 
     fn counts(&self) -> Counts {
         self.feed.counts()

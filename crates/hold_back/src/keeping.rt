@@ -1,16 +1,16 @@
 //! Holding, stalling and letting go.
 
-ghost use Rattle.std.specs.Prelude.{◌≡◌, ℕ, suc, ◌<◌, ◌≤◌, true, List, [], ◌∷◌, ◌++◌, length, is_ok, Some, None, MatchOption};
-ghost use Rattle.record.specs.WellMade.{checked};
+ghost use Rattle.std.specs.Prelude.{◌≡◌, ℕ, suc, ◌<◌, ◌≤◌, true, List, [], ◌∷◌, ◌++◌, length, Some, None, MatchOption};
 ghost use Rattle.model.specs.HoldBack.{hindered, held_back};
 ghost use Rattle.feed.specs.Meaning.{Meaning};
 ghost use Rattle.feed.specs.Pile.{through, holds_back};
-ghost use Rattle.hold_back.specs.Held.{held_records};
+ghost use Rattle.hold_back.specs.Held.{held_records, CanKeep, KeepsRest};
 ghost use Rattle.hold_back.specs.Holding.{released, hold_meaning};
 
-use crate::held::Held;
+use crate::held::{Held, Kept};
+use crate::hold::Hold;
 use crate::passing::is_hindered;
-use crate::queue::Queue;
+use arrayvec::ArrayVec;
 use record::{Counts, Record};
 
 impl Held {
@@ -21,43 +21,45 @@ impl Held {
     {
         Held {
             counts,
-            queue: Queue::empty(),
+            queue: ArrayVec::new(),
             stalled: None,
         }
     }
 
     /// One more record is held.
     pub(crate) fn join(&mut self, record: Record)
-        requires { (length (held_records self.old) < 16) × (is_ok (checked self.old.counts «record») ≡ true) }
-        ensures { (self.new.counts ≡ self.old.counts) × (held_records self.new ≡ held_records self.old ++ («record» ∷ [])) × (self.new.stalled ≡ self.old.stalled) }
+        requires room { length (held_records self.old) < 16 }
+        requires fits { CanKeep self.old «record» }
+        ensures rest { KeepsRest self.old self.new }
+        ensures held { held_records self.new ≡ held_records self.old ++ («record» ∷ []) }
     {
-        self.queue.push(record);
+        self.queue.push(Kept(record));
     }
 
     /// Lets go of the oldest record held, if there is one.
     pub(crate) fn let_go(&mut self) -> Option<Record>
-        ensures { (self.new.counts ≡ self.old.counts) × (self.new.stalled ≡ self.old.stalled) × MatchOption result ((held_records self.old ≡ []) × (held_records self.new ≡ [])) (λ x. held_records self.old ≡ x ∷ held_records self.new) }
+        ensures rest { KeepsRest self.old self.new }
+        ensures oldest { MatchOption result ((held_records self.old ≡ []) × (held_records self.new ≡ [])) (λ x. held_records self.old ≡ x ∷ held_records self.new) }
     {
-        self.queue.pop()
+        self.queue.pop_at(0).map(|oldest| oldest.0)
     }
 
     /// One more record is held, and the oldest is let go.
     pub(crate) fn exchange(&mut self, record: Record) -> Record
-        requires { is_ok (checked self.old.counts «record») ≡ true }
-        ensures { (self.new.counts ≡ self.old.counts) × (self.new.stalled ≡ self.old.stalled) × (held_records self.old ++ («record» ∷ []) ≡ result ∷ held_records self.new) }
+        requires { CanKeep self.old «record» }
+        ensures rest { KeepsRest self.old self.new }
+        ensures held { held_records self.old ++ («record» ∷ []) ≡ result ∷ held_records self.new }
     {
-        match self.let_go() {
-            Some(oldest) => {
-                self.join(record);
-                oldest
-            }
-            None => record,
-        }
+        let Some(oldest) = self.let_go() else {
+            return record;
+        };
+        self.join(record);
+        oldest
     }
 
     /// Lets go of the oldest record held, behind which this one is stalled, or of this one if none is held.
     pub(crate) fn release(&mut self, stalled: Record) -> Record
-        requires { is_ok (checked self.old.counts stalled) ≡ true }
+        requires { CanKeep self.old stalled }
         ensures counts { self.new.counts ≡ self.old.counts }
         ensures released { (h d : ℕ) (xs : List Record) → released h d (held_records self.old) (Some stalled) xs ≡ result ∷ released h d (held_records self.new) self.new.stalled xs }
     {
@@ -77,19 +79,21 @@ impl Held {
     pub(crate) fn hinders(&self, record: &Record) -> bool
         ensures { result ≡ hindered (held_records self.now) «record».now }
     {
-        is_hindered(&self.queue.slots[0..self.queue.len], record)
+        is_hindered(self.queue.as_slice(), record)
     }
 
     /// Takes in a record that comes from below, with nothing stalled, and returns what is then delivered, if anything: this record or the oldest held.
-    pub(crate) fn take_in(&mut self, thread: u8, capacity: u8, record: Record) -> Option<Record>
-        requires { (self.old.stalled ≡ None) × ((is_ok (checked self.old.counts «record») ≡ true) × (capacity ≤ 16)) }
+    pub(crate) fn take_in(&mut self, hold: Hold, record: Record) -> Option<Record>
+        requires none_stalled { self.old.stalled ≡ None }
+        requires fits { CanKeep self.old «record» }
+        requires few { hold.capacity ≤ 16 }
         ensures counts { self.new.counts ≡ self.old.counts }
         ensures delivers { MatchOption result
-            ((self.new.stalled ≡ None) × (length (held_records self.old) < capacity) × (length (held_records self.new) ≡ suc (length (held_records self.old))) × ((xs : List Record) → held_back thread capacity (held_records self.old) («record» ∷ xs) ≡ held_back thread capacity (held_records self.new) xs))
-            (λ y. (xs : List Record) → held_back thread capacity (held_records self.old) («record» ∷ xs) ≡ y ∷ released thread capacity (held_records self.new) self.new.stalled xs) }
+            ((self.new.stalled ≡ None) × (length (held_records self.old) < hold.capacity) × (length (held_records self.new) ≡ suc (length (held_records self.old))) × ((xs : List Record) → held_back hold.thread hold.capacity (held_records self.old) («record» ∷ xs) ≡ held_back hold.thread hold.capacity (held_records self.new) xs))
+            (λ y. (xs : List Record) → held_back hold.thread hold.capacity (held_records self.old) («record» ∷ xs) ≡ y ∷ released hold.thread hold.capacity (held_records self.new) self.new.stalled xs) }
     {
-        if record.thread() == thread {
-            if self.queue.len() >= usize::from(capacity) {
+        if record.thread() == hold.thread {
+            if self.queue.len() >= usize::from(hold.capacity) {
                 return Some(self.exchange(record));
             }
             self.join(record);

@@ -2,12 +2,11 @@
 #![tactic(auto)]
 
 mod held;
+mod hold;
 mod holding;
 mod keeping;
 mod passing;
 mod putting_on;
-mod queue;
-mod settings;
 
+pub use hold::Hold;
 pub use holding::HoldBack;
-pub use settings::hold_settings;

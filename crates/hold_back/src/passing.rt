@@ -1,18 +1,17 @@
 //! Which records may pass held ones.
 
 ghost use Rattle.std.specs.Prelude.{◌≡◌};
-ghost use Rattle.model.specs.HoldBack.{is_from, hinders as hindered_by, hindered};
+ghost use Rattle.std.specs.List.{list_any};
+ghost use Rattle.model.specs.HoldBack.{is_from, hinders as hindered_by};
 
+use crate::held::Kept;
 use record::{Record, Source};
 
 /// The source is a write of this thread.
 fn is_from(source: Source, writer: u8) -> bool
     ensures { result ≡ is_from writer source }
 {
-    match source {
-        Source::Initial => false,
-        Source::Write { thread, .. } => thread == writer,
-    }
+    matches!(source, Source::Write { thread, .. } if thread == writer)
 }
 
 /// The record may not pass the held one, since some thread could tell: it reads from that thread and a write is held, it is a write and the held read is from its thread, or the two are a notify and a wait.
@@ -29,13 +28,8 @@ fn hinders(held: &Record, record: &Record) -> bool
 }
 
 /// The record may not pass one of the held ones.
-pub(crate) fn is_hindered(held: &[Record], record: &Record) -> bool
-    ensures { result ≡ hindered held.now «record».now }
+pub(crate) fn is_hindered(held: &[Kept], record: &Record) -> bool
+    ensures { result ≡ list_any (λ y. hindered_by y «record».now) held.now }
 {
-    for one in held {
-        if hinders(one, record) {
-            return true;
-        }
-    }
-    false
+    held.iter().any(|one| hinders(&one.0, record))
 }

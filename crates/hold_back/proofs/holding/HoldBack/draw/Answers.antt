@@ -8,7 +8,12 @@ take_in-requires g c =
     let F = g.F.Feed in
     let s = c.loop-record.self in
     let m = F.meaning s.feed in
-    let n = F.meaning c.next.new.self in
+    let n = F.meaning c.next-next.new.self in
     let x = c.in-Ok-Some.record in
     let a : Asked m (Ok (Some x)) n = search rules in
-    (c.loop-record.invariant.1, (can-be-held m n s.held.counts s.thread s.capacity x c.loop-record.invariant.0 (F.laws.sound s.feed) a, few-held m.counts s.held.counts s.thread s.capacity c.loop-record.invariant.0))
+    let i = c.loop-record.invariant in
+    record {
+      none_stalled = i.1;
+      fits = can-be-held m n s.held.counts s.hold.thread s.hold.capacity x i.0 (F.laws.sound s.feed) a;
+      few = few-held m.counts s.held.counts s.hold.thread s.hold.capacity i.0;
+    }
