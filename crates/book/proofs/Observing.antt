@@ -1,5 +1,5 @@
 -- What a view keeps, as its reader observes more and as the other thread goes on.
-use Rattle.std.proofs.Common.{◌≡◌, ℕ, zero, suc, ◌+◌, ◌-◌, ◌<◌, ◌≤◌, max, Bool, true, false, cond, ◌&&◌, ◌||◌, eqb, ltb, leb, ◌≢◌, List, [], ◌∷◌, ◌++◌, length, get_or, drop, set, sym, refl, ap, ◌∙◌, subst, ⊎_elim, add-one, arith, length-append, length-set, drop-cons, get_or-set_other, get_or-set_same, ltb-false, ltb-true, le-ltb, lt-ltb, eq-eqb, ne_eqb, eqb-true, le-leb}
+use Rattle.std.proofs.Common.{◌≡◌, ℕ, zero, suc, ◌+◌, ◌-◌, ◌<◌, ◌≤◌, max, Bool, true, false, cond, ◌&&◌, ◌||◌, eqb, ltb, leb, ◌≢◌, List, [], ◌∷◌, ◌++◌, length, get_or, drop, sym, refl, ap, ◌∙◌, subst, ⊎_elim, add-one, arith, length-append, length-set, drop-cons, get_or-set_other, get_or-set_same, ltb-false, ltb-true, le-ltb, lt-ltb, eq-eqb, ne_eqb, eqb-true, le-leb}
 use mathlib.Core.Bool.{false≢true, and-false}
 use borrow.Author.Tests.{lt-leb, eqb-false}
 use Rattle.std.proofs.lemmas.List.{drop_all}
@@ -104,7 +104,6 @@ module _ (xs : List Record) (f : ℕ → ℕ) where
           (λ i. ltb n (get_or cov a 0) || (to-from xs a w e (q ∙ s) i && at-below n (f w) i))
           ∙ below-max n (get_or cov a 0) (suc (f w))
           ∙ ap (λ (m : ℕ). ltb n m) (sym (get_or-set_same cov a (max (get_or cov a 0) (suc (f w))) 0 here))
-          ∙ ap (λ (x : Bool). ltb n (get_or (cond x (set cov a (max (get_or cov a 0) (suc (f w)))) cov) a 0)) (sym (lt-ltb a 64 l))
           ∙ ap (λ (x : ℕ). ltb n (get_or (raised cov x (suc (f w))) a 0)) (sym s)
       go b q false d =
           let ne : a ≢ b = λ z. eqb-false b a d (sym z) in
@@ -112,15 +111,11 @@ module _ (xs : List Record) (f : ℕ → ℕ) where
           ∙ (λ i. ltb n (get_or cov a 0) || (e i && eqb (q i) a && leb n (f w)))
           ∙ (λ i. ltb n (get_or cov a 0) || (d i && leb n (f w)))
           ∙ or_no (ltb n (get_or cov a 0))
-          ∙ ap (λ (m : ℕ). ltb n m) (sym (kept-other (ltb b 64) ne))
+          ∙ ap (λ (m : ℕ). ltb n m) (sym (get_or-set_other cov b a (max (get_or cov b 0) (suc (f w))) 0 ne))
         where
           or_no : (x : Bool) → (x || false) ≡ x
           or_no true = refl
           or_no false = refl
-
-          kept-other : (x : Bool) → a ≢ b → get_or (cond x (set cov b (max (get_or cov b 0) (suc (f w)))) cov) a 0 ≡ get_or cov a 0
-          kept-other true ne = get_or-set_other cov b a (max (get_or cov b 0) (suc (f w))) 0 ne
-          kept-other false ne = refl
 
 -- a table's numbers are the largest, each counted one higher, exactly if the table is right for every number below them
 module _ (xs : List Record) (f : ℕ → ℕ) (S : ℕ → Bool) (tops : ℕ → ℕ → ℕ) (none : (a : ℕ) → tops a 0 ≡ 0) (more : (a k : ℕ) → tops a (suc k) ≡ max (cond (S k && is_at (is_write_to a) xs k) (suc (f k)) 0) (tops a k)) (cov : List ℕ) where
@@ -145,7 +140,7 @@ pub lasts-from : (xs : List Record) (cov : List ℕ) → ((a : ℕ) → a < 64 �
 lasts-from xs cov = tabled-from xs (up_to is_write xs) (λ k. true) (last_to xs) (λ a. refl) (λ a k. refl) cov
 
 pub room-raised : (cov : List ℕ) (a m : ℕ) → length (raised cov a m) ≡ length cov
-room-raised cov a m = elim (ltb a 64) as (λ b. length (cond b (set cov a (max (get_or cov a 0) m)) cov) ≡ length cov) [ true ↦ length-set cov a _ | false ↦ refl ]
+room-raised cov a m = length-set cov a _
 
 -- Passing over writes ----------------------------------------------------------------------------------------------
 

@@ -1,15 +1,16 @@
 //! Taking a lawful record into the book.
 
-ghost use Rattle.std.specs.Prelude.{◌≡◌, ℕ, ◌<◌, ◌≤◌, true, List, ◌∷◌, None, ◌≢◌};
+ghost use Rattle.std.specs.Prelude.{◌≡◌, ℕ, List, ◌∷◌, None, ◌≢◌};
 ghost use Rattle.record.specs.WellMade.{thread_of};
 ghost use Rattle.model.specs.Laws.{by_axioms};
 ghost use Rattle.model.specs.Lawful.{verdict as verdict_of};
-ghost use Rattle.book.specs.Pages.{page_at, fitting};
+ghost use Rattle.book.specs.Pages.{page_at};
 ghost use Rattle.book.specs.Taken.{read_observed, wait_observed, waiting, observed_by, entered, taken};
 ghost use Rattle.book.specs.Kept.{Kept, WellMadeIn};
 
 use crate::book::Book;
-use crate::fitting::fits;
+use crate::fitting::Entry;
+use crate::threads::{Thread, Threads};
 use record::{Record, Source};
 
 impl Book {
@@ -19,68 +20,61 @@ impl Book {
         ensures others { (u : ℕ) → (u ≢ thread_of «record».now) → page_at self.new.pages u ≡ page_at self.old.pages u }
         ensures keeps { (history : List Record) → Kept threads self.old history → WellMadeIn threads «record».now → verdict_of by_axioms threads history «record».now ≡ None → Kept threads self.new («record».now ∷ history) }
     {
-        if threads <= 8 && fits(threads, record) {
-            self.observe(threads, record);
-            self.write_up(record);
+        if let Some(entry) = Entry::new(threads, record) {
+            self.observe(entry);
+            self.write_up(entry);
         }
     }
 
     /// The page of the record's thread is written up in its place.
-    fn write_up(&mut self, record: &Record)
-        requires { thread_of «record».now < 8 }
-        ensures { self.new.pages ≡ entered self.old.pages (thread_of «record».now) «record».now }
+    fn write_up(&mut self, entry: Entry)
+        ensures { self.new.pages ≡ entered self.old.pages (thread_of entry.«record») entry.«record» }
     {
-        self.pages[record.thread() as usize].write_up(record);
+        self.pages[entry.thread().index as usize].write_up(&entry.record);
     }
 
     /// The record's thread observes what the record names.
-    fn observe(&mut self, threads: u8, record: &Record)
-        requires { (threads ≤ 8) × (fitting threads «record».now ≡ true) }
-        ensures { self.new.pages ≡ observed_by threads self.old.pages «record».now }
+    fn observe(&mut self, entry: Entry)
+        ensures { self.new.pages ≡ observed_by entry.threads.count self.old.pages entry.«record» }
     {
-        match record {
+        match &entry.record {
             Record::Read(read) => if let Source::Write { thread, number } = read.source {
                 if thread != read.thread {
-                    self.observe_read(read.thread as usize, thread as usize, number);
+                    self.observe_read(entry.thread(), Thread { index: thread }, number);
                 }
             },
-            Record::Wait(wait) => {
-                let waiter = wait.thread as usize;
-                self.observe_waits(threads as usize, waiter, self.pages[waiter].waits);
-            }
+            Record::Wait(_) => self.observe_waits(entry.threads, entry.thread()),
             _ => {}
         }
     }
 
     /// The reader observes the writer's write with this number.
-    fn observe_read(&mut self, reader: usize, writer: usize, number: u16)
-        requires { (reader < 8) × (writer < 8) }
-        ensures { self.new.pages ≡ read_observed self.old.pages reader writer number }
+    fn observe_read(&mut self, reader: Thread, writer: Thread, number: u16)
+        ensures { self.new.pages ≡ read_observed self.old.pages reader.index writer.index number }
     {
-        let mut view = self.pages[reader].views[writer];
-        view.observe_read(&self.pages[writer], number);
-        self.pages[reader].views[writer] = view;
+        let mut view = *self.view(reader, writer);
+        view.observe_read(self.page(writer), number);
+        self.pages[reader.index as usize].views[writer.index as usize] = view;
     }
 
-    /// The waiter observes the notify of this phase of each other thread.
-    fn observe_waits(&mut self, threads: usize, waiter: usize, phase: u16)
-        requires { (threads ≤ 8) × (waiter < 8) }
-        ensures { self.new.pages ≡ waiting threads self.old.pages waiter phase }
+    /// The waiter observes the notify of its next phase of each other thread.
+    fn observe_waits(&mut self, threads: Threads, waiter: Thread)
+        ensures { self.new.pages ≡ waiting threads.count self.old.pages waiter.index (page_at self.old.pages waiter.index).waits }
     {
-        for u in 0..threads {
-            if u != waiter {
-                self.observe_wait(waiter, u, phase);
+        let phase = self.page(waiter).waits;
+        for u in 0..threads.count {
+            if u != waiter.index {
+                self.observe_wait(waiter, Thread { index: u }, phase);
             }
         }
     }
 
     /// The waiter observes the notify of this phase of the other thread.
-    fn observe_wait(&mut self, waiter: usize, other: usize, phase: u16)
-        requires { (waiter < 8) × (other < 8) }
-        ensures { self.new.pages ≡ wait_observed self.old.pages waiter other phase }
+    fn observe_wait(&mut self, waiter: Thread, other: Thread, phase: u16)
+        ensures { self.new.pages ≡ wait_observed self.old.pages waiter.index other.index phase }
     {
-        let mut view = self.pages[waiter].views[other];
-        view.observe_wait(&self.pages[other], phase);
-        self.pages[waiter].views[other] = view;
+        let mut view = *self.view(waiter, other);
+        view.observe_wait(self.page(other), phase);
+        self.pages[waiter.index as usize].views[other.index as usize] = view;
     }
 }
