@@ -9,24 +9,21 @@ use record::{Record, Source};
 
 /// A record that can stand in a book of so many threads.
 #[derive(Clone, Copy)]
-pub(crate) struct Entry {
+pub(crate) struct Entry<'a> {
     pub(crate) threads: Threads,
-    pub(crate) record: Record,
-    ghost fits: { fitting threads.count «record» ≡ true },
+    pub(crate) record: &'a Record,
+    ghost fits: { fitting threads.count «record».now ≡ true },
 }
 
-impl Entry {
+impl<'a> Entry<'a> {
     /// The record, if it can stand in a book of so many threads.
-    pub(crate) fn new(threads: u8, record: &Record) -> Option<Entry>
+    pub(crate) fn new(threads: u8, record: &'a Record) -> Option<Entry<'a>>
         ensures variant { is_some result ≡ (nat_le threads 8 && fitting threads «record».now) }
-        ensures value { IfSome result (λ entry. (entry.threads.count ≡ threads) × (entry.«record» ≡ «record».now)) }
+        ensures value { IfSome result (λ entry. (entry.threads.count ≡ threads) × (entry.«record».now ≡ «record».now)) }
     {
         let threads = Threads::new(threads)?;
         if fits(threads.count, record) {
-            Some(Entry {
-                threads,
-                record: *record,
-            })
+            Some(Entry { threads, record })
         } else {
             None
         }
@@ -34,7 +31,7 @@ impl Entry {
 
     /// The thread of the record.
     pub(crate) fn thread(self) -> Thread
-        ensures { result.index ≡ thread_of self.«record» }
+        ensures { result.index ≡ thread_of self.entry.«record».now }
     {
         Thread {
             index: self.record.thread(),

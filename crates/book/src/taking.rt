@@ -27,23 +27,23 @@ impl Book {
     }
 
     /// The page of the record's thread is written up in its place.
-    fn write_up(&mut self, entry: Entry)
-        ensures { self.new.pages ≡ entered self.old.pages (thread_of entry.«record») entry.«record» }
+    fn write_up(&mut self, next: Entry<'_>)
+        ensures { self.new.pages ≡ entered self.old.pages (thread_of next.entry.«record».now) next.entry.«record».now }
     {
-        self.pages[entry.thread().index as usize].write_up(&entry.record);
+        self.pages[next.thread().index as usize].write_up(next.record);
     }
 
     /// The record's thread observes what the record names.
-    fn observe(&mut self, entry: Entry)
-        ensures { self.new.pages ≡ observed_by entry.threads.count self.old.pages entry.«record» }
+    fn observe(&mut self, next: Entry<'_>)
+        ensures { self.new.pages ≡ observed_by next.entry.threads.count self.old.pages next.entry.«record».now }
     {
-        match &entry.record {
+        match next.record {
             Record::Read(read) => if let Source::Write { thread, number } = read.source {
                 if thread != read.thread {
-                    self.observe_read(entry.thread(), Thread { index: thread }, number);
+                    self.observe_read(next.thread(), Thread { index: thread }, number);
                 }
             },
-            Record::Wait(_) => self.observe_waits(entry.threads, entry.thread()),
+            Record::Wait(_) => self.observe_waits(next.threads, next.thread()),
             _ => {}
         }
     }

@@ -25,14 +25,14 @@ impl Book {
         self.kind_reason(entry)
     }
 
-    fn kind_reason(&self, entry: Entry) -> Option<Reason>
-        ensures { result ≡ said_kind entry.threads.count self.now.pages entry.«record» }
+    fn kind_reason(&self, next: Entry<'_>) -> Option<Reason>
+        ensures { result ≡ said_kind next.entry.threads.count self.now.pages next.entry.«record».now }
     {
-        let own = entry.thread();
-        match &entry.record {
+        let own = next.thread();
+        match next.record {
             Record::Write(_) | Record::Fence(_) => None,
             Record::Read(read) => match read.source {
-                Source::Initial => self.initial_reason(entry.threads, own, read),
+                Source::Initial => self.initial_reason(next.threads, own, read),
                 Source::Write { thread, number } => self.read_reason(
                     own,
                     read,
@@ -41,7 +41,7 @@ impl Book {
                 ),
             },
             Record::Notify(_) => self.notify_reason(own),
-            Record::Wait(wait) => self.wait_reason(entry.threads, own, wait.label),
+            Record::Wait(wait) => self.wait_reason(next.threads, own, wait.label),
         }
     }
 
