@@ -5,12 +5,14 @@ ghost use Rattle.record.specs.WellMade.{thread_of};
 ghost use Rattle.model.specs.Laws.{by_axioms};
 ghost use Rattle.model.specs.Lawful.{verdict as verdict_of};
 ghost use Rattle.book.specs.Pages.{page_at};
-ghost use Rattle.book.specs.Taken.{read_observed, wait_observed, waiting, observed_by, entered, taken};
+ghost use Rattle.book.specs.Taken.{looked, waiting, observed_by, entered, taken};
 ghost use Rattle.book.specs.Kept.{Kept, WellMadeIn};
 
 use crate::book::Book;
 use crate::fitting::Entry;
+use crate::pages::Page;
 use crate::threads::{Thread, Threads};
+use crate::views::View;
 use record::{Record, Source};
 
 impl Book {
@@ -40,21 +42,17 @@ impl Book {
         match next.record {
             Record::Read(read) => if let Source::Write { thread, number } = read.source {
                 if thread != read.thread {
-                    self.observe_read(next.thread(), Thread { index: thread }, number);
+                    let writer = Thread { index: thread };
+                    self.look(
+                        next.thread(),
+                        writer,
+                        |view, page| view.observe_read(page, number),
+                    );
                 }
             },
             Record::Wait(_) => self.observe_waits(next.threads, next.thread()),
             _ => {}
         }
-    }
-
-    /// The reader observes the writer's write with this number.
-    fn observe_read(&mut self, reader: Thread, writer: Thread, number: u16)
-        ensures { self.new.pages ≡ read_observed self.old.pages reader.index writer.index number }
-    {
-        let mut view = *self.view(reader, writer);
-        view.observe_read(self.page(writer), number);
-        self.pages[reader.index as usize].views[writer.index as usize] = view;
     }
 
     /// The waiter observes the notify of its next phase of each other thread.
@@ -64,17 +62,22 @@ impl Book {
         let phase = self.page(waiter).waits;
         for u in 0..threads.count {
             if u != waiter.index {
-                self.observe_wait(waiter, Thread { index: u }, phase);
+                self.look(
+                    waiter,
+                    Thread { index: u },
+                    |view, page| view.observe_wait(page, phase),
+                );
             }
         }
     }
 
-    /// The waiter observes the notify of this phase of the other thread.
-    fn observe_wait(&mut self, waiter: Thread, other: Thread, phase: u16)
-        ensures { self.new.pages ≡ wait_observed self.old.pages waiter.index other.index phase }
+    /// What the reader has observed of the other thread becomes what this makes of it and the other's page.
+    fn look<F: FnOnce(&mut View, &Page)>(&mut self, reader: Thread, other: Thread, observe: F)
+        requires { F.IsAlwaysCallable observe }
+        ensures { (f : View → Page → View) → ((v : _) (q : _) (w : _) → F.post observe v q tt w → w.now ≡ f v.now q.now) → self.new.pages ≡ looked self.old.pages reader.index other.index f }
     {
-        let mut view = *self.view(waiter, other);
-        view.observe_wait(self.page(other), phase);
-        self.pages[waiter.index as usize].views[other.index as usize] = view;
+        let mut view = *self.view(reader, other);
+        observe(&mut view, self.page(other));
+        self.pages[reader.index as usize].views[other.index as usize] = view;
     }
 }
