@@ -16,7 +16,7 @@ use Rattle.model.specs.Laws.{first_edition as E, by_axioms, with_named}
 use Rattle.model.specs.Lawful.{verdict}
 use Rattle.model.specs.Rank.{rank}
 use Rattle.model.proofs.Renamed.{IsAt, place_is}
-use Rattle.model.proofs.Rank.{at-event}
+use Rattle.model.proofs.Rank.{write-event, notify-event, at-event, observed-event}
 use Rattle.model.proofs.WellMade.{SourceFits, Fits}
 use Rattle.book.specs.declared.pages.Written.{Written}
 use Rattle.book.specs.declared.pages.Notified.{Notified}
@@ -27,8 +27,7 @@ use Rattle.book.specs.Pages.{view_at, page_at, is_full, noting, written_up, fitt
 use Rattle.book.specs.Views.{covering, observing, observing_write, observing_notify, read_observing, wait_observing}
 use Rattle.book.specs.Taken.{with_view, viewed, read_observed, wait_observed, waiting, source_observed, observed_by, entered, taken}
 use Rattle.book.specs.Kept.{OwnKept, ViewKept, PageKept, Kept, WellMadeIn}
-use Rattle.book.proofs.Ranks.{Events, observed-events, write-event, notify-event}
-use Rattle.book.proofs.Observing.{saw-fence, saw-write, view-grown}
+use Rattle.book.proofs.Observing.{Events, saw-fence, saw-write, view-grown}
 use Rattle.book.proofs.Own.{own-written-up, Low}
 use Rattle.book.proofs.Saying.{room, fits_in, fits-fitting, thread-below, written_there, notified_there, write-is, notify-is}
 
@@ -51,10 +50,10 @@ module _ (v : View) (q : Page) (n : ℕ) (xs : List Record) (seen : List ℕ) (e
   ws = q.writes.items
 
   saw-read : (e : ℕ) → is_at is_write xs e ≡ true → ViewKept (covering (observing v q (suc (rank E xs e))) (at_place 0 address_of xs e) (suc (rank E xs e))) xs (e ∷ seen)
-  saw-read e b = saw-write xs ws own.written own.writes v seen ev kept e (at-event is_write (is_event E) write-event xs e b) b
+  saw-read e b = saw-write xs ws own.written own.writes v seen ev kept e (at-event is_write (is_event E) (write-event E) xs e b) b
 
   saw-notify : (e : ℕ) → is_at is_notify xs e ≡ true → ViewKept (observing v q (suc (rank E xs e))) xs (e ∷ seen)
-  saw-notify e b = saw-fence xs ws own.written own.writes v seen ev kept e (at-event is_notify (is_event E) notify-event xs e b) (notify-no-write xs e b)
+  saw-notify e b = saw-fence xs ws own.written own.writes v seen ev kept e (at-event is_notify (is_event E) (notify-event E) xs e b) (notify-no-write xs e b)
 
   -- a read of the write numbered k, where there is one
   pub read_kept : (k : ℕ) → ViewKept (read_observing v q k) xs (with_named seen (place_of is_write k xs))
@@ -141,7 +140,7 @@ page-other T x h r p ne k = record {
 }
   where
     go : (u : ℕ) → ViewKept (view_at p.views u) (acts_of u h) (observed by_axioms r u h) → (b : Bool) → ViewKept (view_at p.views u) (acts_of u h ++ cond b (x ∷ []) []) (observed by_axioms r u h)
-    go u kv true = view-grown (acts_of u h) x (view_at p.views u) (observed by_axioms r u h) (observed-events r u h) kv
+    go u kv true = view-grown (acts_of u h) x (view_at p.views u) (observed by_axioms r u h) (observed-event by_axioms r u h) kv
     go u kv false = subst (λ (xs : List Record). ViewKept (view_at p.views u) xs (observed by_axioms r u h)) (sym (append-nil (acts_of u h))) kv
 
 noting-views : (p : Page) (x : Record) → (noting p x).views ≡ p.views
@@ -206,7 +205,7 @@ module _ (T : ℕ) (b : Book) (h : List Record) (kept : Kept T b h) where
     from-other u n lu ne =
         look T t h (seen t) (with_source (WriteOf u n)) ps u (read_observing (view_at (page_at ps t).views u) (page_at ps u) n) lt lu (begin T t h b lt kept)
         (subst (λ (c : Bool). ViewKept (read_observing (view_at (page_at ps t).views u) (page_at ps u) n) (acts_of u h) (with_named (seen t u) (cond c (place_of is_write n (acts_of u h)) None))) (sym (eq-eqb u u refl))
-        (read_kept (view_at (page_at ps t).views u) (page_at ps u) (count_of u h) (acts_of u h) (seen t u) (observed-events t u h) ((kept.pages t lt).views u lu ne) (kept.pages u lu).own n))
+        (read_kept (view_at (page_at ps t).views u) (page_at ps u) (count_of u h) (acts_of u h) (seen t u) (observed-event by_axioms t u h) ((kept.pages t lt).views u lu ne) (kept.pages u lu).own n))
         (λ k l nt nu. elsewhere u n k nu)
 
     mid-source : (s : Source) → SourceFits (room T) s → Midway T t h (with_source s) (source_observed ps t s)
@@ -239,7 +238,7 @@ module _ (T : ℕ) (b : Book) (h : List Record) (kept : Kept T b h) where
         let old : ViewKept (view_at (page_at qs waiter).views m) (acts_of m h) (seen waiter m) = subst (λ (c : Bool). ViewKept (view_at (page_at qs waiter).views m) (acts_of m h) (cond c (with_record h (Wait w) m) (seen waiter m))) (le-ltb m m (omega arith)) (mid.views m lm ne) in
         look T waiter h (up_to_thread m) (up_to_thread (suc m)) qs m (wait_observing (view_at (page_at qs waiter).views m) (page_at qs m) j) lt lm mid
         (subst (λ (c : Bool). ViewKept (wait_observing (view_at (page_at qs waiter).views m) (page_at qs m) j) (acts_of m h) (cond c (with_record h (Wait w) m) (seen waiter m))) (sym (lt-ltb m (suc m) (omega arith)))
-        (wait-kept (view_at (page_at qs waiter).views m) (page_at qs m) (count_of m h) (acts_of m h) (seen waiter m) (observed-events waiter m h) old (mid.others m lm ne).own j))
+        (wait-kept (view_at (page_at qs waiter).views m) (page_at qs m) (count_of m h) (acts_of m h) (seen waiter m) (observed-event by_axioms waiter m h) old (mid.others m lm ne).own j))
         (λ u lu nt nm. next-same m u nm)
 
     all-up-to : (m : ℕ) → m ≤ T → Mid m (waiting m ps waiter j)

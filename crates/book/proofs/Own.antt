@@ -17,11 +17,12 @@ use Rattle.model.specs.Events.{is_write, is_notify, is_wait, is_write_to, is_act
 use Rattle.model.specs.Laws.{first_edition as E}
 use Rattle.model.specs.Rank.{bit, rank, strict_before}
 use Rattle.model.proofs.Places.{at-grown}
+use Rattle.model.proofs.Rank.{at-write-to}
 use Rattle.book.specs.declared.pages.Page.{Page}
 use Rattle.book.specs.Pages.{is_full, strict_of, tallied, next_rank, noting, written_up}
 use Rattle.book.specs.Kept.{up_to, last_to, written_at, notified_at, OwnKept}
 use Rattle.book.proofs.Numbers.{is-inside, at-end, count-end, count-few, up_to-grown, up_to-end, up_to-less, rank-grown, rank-end, stricts-end, stricts-few}
-use Rattle.book.proofs.Observing.{to-parts, to_write}
+use Rattle.book.proofs.Observing.{to-parts}
 
 pub length_more : {A : Type 0} (xs : List A) (x : A) → length (xs ++ x ∷ []) ≡ suc (length xs)
 length_more xs x = length-append xs (x ∷ []) ∙ add-one (length xs)
@@ -82,7 +83,7 @@ lasts-same xs x ls f h a l =
     h a l
     ∙ sym
     (last_end xs x a
-    ∙ ap (λ (b : Bool). max (cond b (suc (how_many is_write xs)) 0) (last_to xs a (length xs))) (to_write (x ∷ []) a 0 ∙ ap (λ (b : Bool). b && eqb (address_of x) a) f)
+    ∙ ap (λ (b : Bool). max (cond b (suc (how_many is_write xs)) 0) (last_to xs a (length xs))) (at-write-to a (x ∷ []) 0 ∙ ap (λ (b : Bool). b && eqb (address_of x) a) f)
     ∙ omega arith)
 
 lasts-more : (xs : List Record) (w : WriteRecord) (ls : List ℕ) → length ls ≡ 64 → Lasts xs ls → Lasts (xs ++ Write w ∷ []) (set ls w.address (how_many is_write xs + 1))

@@ -1,8 +1,5 @@
-use Rattle.std.proofs.Common.{rules, List, sym, ap, ◌∙◌}
-use Rattle.book.specs.declared.pages.Page.{Page}
-use Rattle.book.specs.Taken.{wait_observed}
+use Rattle.std.proofs.Common.{rules}
 use Rattle.book.specs.Views.{wait_observing}
-use Rattle.book.proofs.OverThreads.{wait-skip, wait-step}
 use Rattle.book.proofs.book.Book.observe_waits.Goals as goal
 use Rattle.book.proofs.book.Book.observe_waits.Goals.{then-u-waiter, else-u-waiter}
 
