@@ -5,4 +5,3 @@ pub mod Saying
 pub mod Entering
 pub mod Asking
 pub mod Empty
-pub mod OverWrites

@@ -77,17 +77,17 @@ abbrev pub is_full : Page → Bool
 is_full p = nat_le 512 p.count || nat_lt 512 p.strict || nat_le 512 (length p.writes.items) || nat_le 512 (length p.notifies.items) || nat_le 512 p.waits
 
 abbrev pub adding_write : Page → ℕ → ℕ → ℕ → Page
-adding_write p a v m = record { count = p.count; strict = p.strict; writes = record { items = p.writes.items ++ record { address = a; value = v; rank = m } ∷ [] }; last = slice_set p.last a (length p.writes.items + 1); notifies = p.notifies; waits = p.waits; views = p.views }
+adding_write p a v m = record p { writes = record { items = p.writes.items ++ record { address = a; value = v; rank = m } ∷ [] }; last = slice_set p.last a (length p.writes.items + 1) }
 
 abbrev pub adding_notify : Page → ℕ → ℕ → Page
-adding_notify p l m = record { count = p.count; strict = p.strict; writes = p.writes; last = p.last; notifies = record { items = p.notifies.items ++ record { label = l; rank = m } ∷ [] }; waits = p.waits; views = p.views }
+adding_notify p l m = record p { notifies = record { items = p.notifies.items ++ record { label = l; rank = m } ∷ [] } }
 
 abbrev pub adding_wait : Page → Page
-adding_wait p = record { count = p.count; strict = p.strict; writes = p.writes; last = p.last; notifies = p.notifies; waits = p.waits + 1; views = p.views }
+adding_wait p = record p { waits = p.waits + 1 }
 
 -- one more record, with s strict events
 abbrev pub tallied : Page → ℕ → Page
-tallied p s = record { count = p.count + 1; strict = p.strict + s; writes = p.writes; last = p.last; notifies = p.notifies; waits = p.waits; views = p.views }
+tallied p s = record p { count = p.count + 1; strict = p.strict + s }
 
 -- one more than the rank of the thread's next record
 abbrev pub next_rank : Page → Record → ℕ

@@ -11,7 +11,7 @@ use Rattle.book.specs.Pages.{view_at, page_at, written_up, fitting}
 use Rattle.book.specs.Views.{read_observing, wait_observing}
 
 abbrev pub with_view : Page → ℕ → View → Page
-with_view p u v = record { count = p.count; strict = p.strict; writes = p.writes; last = p.last; notifies = p.notifies; waits = p.waits; views = slice_set p.views u v }
+with_view p u v = record p { views = slice_set p.views u v }
 
 -- t has another view of u
 abbrev pub viewed : List Page → ℕ → ℕ → View → List Page

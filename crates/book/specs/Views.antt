@@ -11,7 +11,7 @@ abbrev pub raised : List ℕ → ℕ → ℕ → List ℕ
 raised table a m = slice_set table a (max (slice_index table a) m)
 
 abbrev pub covering : View → ℕ → ℕ → View
-covering v a m = record { passed = v.passed; covered = raised v.covered a m }
+covering v a m = record v { covered = raised v.covered a m }
 
 -- the writes at the front are passed over, as long as their ranks are below m
 abbrev pub passing : ℕ → List Written → View → View

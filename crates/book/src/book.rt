@@ -32,11 +32,9 @@ impl Book {
         ensures exact { result ≡ (if nat_lt thread 8 then (page_at self.now.pages thread).count else 0) }
         ensures keeps { (threads : ℕ) (history : List Record) → Kept threads self.now history → thread < threads → result ≡ count_of thread history }
     {
-        if thread < 8 {
-            self.pages[thread as usize].count as usize
-        } else {
-            0
-        }
+        self.pages
+            .get(thread as usize)
+            .map_or(0, |page| page.count as usize)
     }
 
     /// The page of this thread.

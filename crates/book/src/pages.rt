@@ -1,11 +1,10 @@
 //! The page of one thread.
 
 ghost use Rattle.std.specs.Prelude.{◌≡◌, ◌<◌, ◌≤◌};
-ghost use Rattle.model.specs.Events.{a_write, a_read};
-ghost use Rattle.model.specs.Laws.{strict_kind};
-ghost use Rattle.model.specs.Rank.{bit};
+ghost use Rattle.model.specs.Events.{is_strict};
+ghost use Rattle.model.specs.Laws.{first_edition};
 ghost use Rattle.arrayvec.specs.ArrayVec.{array_vec_len};
-ghost use Rattle.book.specs.Pages.{empty_page, strict_of, write_of, notify_of, is_later_written, is_written_to, is_notify_missing, is_other_labelled, is_full, adding_write, tallied, written_up};
+ghost use Rattle.book.specs.Pages.{empty_page, write_of, notify_of, is_later_written, is_written_to, is_notify_missing, is_other_labelled, is_full, adding_write, written_up};
 
 use crate::tables::{number_at, set_number};
 use crate::views::View;
@@ -114,7 +113,7 @@ impl Page {
         if self.is_full() {
             return;
         }
-        let strict = strict_events(record);
+        let strict = u16::from(is_strict(record));
         let rank = 2 * self.strict + strict + 1;
         match record {
             Record::Write(w) => self.add_write(w.address, w.value, rank),
@@ -125,7 +124,8 @@ impl Page {
             Record::Wait(_) => self.waits += 1,
             Record::Read(_) | Record::Fence(_) => {}
         }
-        self.tally(strict);
+        self.count += 1;
+        self.strict += strict;
     }
 
     fn is_full(&self) -> bool
@@ -149,36 +149,16 @@ impl Page {
         });
         set_number(&mut self.last, address, self.writes.len() as u16);
     }
-
-    /// Counts one more record, and so many more strict events.
-    fn tally(&mut self, strict: u16)
-        requires { (self.old.count < 512) × ((self.old.strict ≤ 512) × (strict ≤ 1)) }
-        ensures { self.new ≡ tallied self.old strict }
-    {
-        self.count += 1;
-        self.strict += strict;
-    }
 }
 
-/// How many strict events the record is, 1 or 0: the one place that looks at which records are.
-fn strict_events(record: &Record) -> u16
-    ensures { result ≡ strict_of «record».now }
+/// The record is a strict event: the one place that looks at which records are.
+fn is_strict(record: &Record) -> bool
+    ensures { result ≡ is_strict first_edition «record».now }
 {
     match record {
-        Record::Write(w) => strict_access(w.mode),
-        Record::Read(r) => strict_access(r.mode),
-        Record::Fence(_) | Record::Notify(_) => 1,
-        Record::Wait(_) => 0,
-    }
-}
-
-/// The same of a write or read with this mode.
-fn strict_access(mode: Mode) -> u16
-    ensures of_write { result ≡ bit (strict_kind (a_write mode)) }
-    ensures of_read { result ≡ bit (strict_kind (a_read mode)) }
-{
-    match mode {
-        Mode::Relaxed => 0,
-        Mode::Strict => 1,
+        Record::Write(w) => w.mode == Mode::Strict,
+        Record::Read(r) => r.mode == Mode::Strict,
+        Record::Fence(_) | Record::Notify(_) => true,
+        Record::Wait(_) => false,
     }
 }
