@@ -4,8 +4,8 @@ ghost use Rattle.std.specs.Prelude.{◌≡◌, ℕ, List, ◌∷◌, None, ◌�
 ghost use Rattle.record.specs.WellMade.{thread_of};
 ghost use Rattle.model.specs.Laws.{by_axioms};
 ghost use Rattle.model.specs.Lawful.{verdict as verdict_of};
-ghost use Rattle.book.specs.Pages.{page_at};
-ghost use Rattle.book.specs.Taken.{looked, waiting, observed_by, entered, taken};
+ghost use Rattle.book.specs.Pages.{view_at, page_at};
+ghost use Rattle.book.specs.Taken.{viewed, waiting, observed_by, entered, taken};
 ghost use Rattle.book.specs.Kept.{Kept, WellMadeIn};
 
 use crate::book::Book;
@@ -74,10 +74,17 @@ impl Book {
     /// What the reader has observed of the other thread becomes what this makes of it and the other's page.
     fn look<F: FnOnce(&mut View, &Page)>(&mut self, reader: Thread, other: Thread, observe: F)
         requires { F.IsAlwaysCallable observe }
-        ensures { (f : View → Page → View) → ((v : _) (q : _) (w : _) → F.post observe v q tt w → w.now ≡ f v.now q.now) → self.new.pages ≡ looked self.old.pages reader.index other.index f }
+        ensures { (v : _) × (q : _) × (w : _) × F.post observe v q tt w × (v.now ≡ view_at (page_at self.old.pages reader.index).views other.index) × (q.now ≡ page_at self.old.pages other.index) × (self.new.pages ≡ viewed self.old.pages reader.index other.index w.now) }
     {
         let mut view = *self.view(reader, other);
         observe(&mut view, self.page(other));
+        self.set_view(reader, other, view);
+    }
+
+    /// The reader has this view of the other thread from now on.
+    fn set_view(&mut self, reader: Thread, other: Thread, view: View)
+        ensures { self.new.pages ≡ viewed self.old.pages reader.index other.index view }
+    {
         self.pages[reader.index as usize].views[other.index as usize] = view;
     }
 }
