@@ -2,8 +2,6 @@
 use Rattle.std.proofs.Common.{ℕ, ◌≤◌, [], sym, refl, subst, arith}
 use mathlib.Core.Bool.{false≢true}
 use lib.ListN.{length-replicate, get_or-replicate}
-use Rattle.book.specs.declared.pages.Written.{Written}
-use Rattle.book.specs.declared.pages.Notified.{Notified}
 use Rattle.book.specs.declared.pages.Page.{Page}
 use Rattle.book.specs.declared.views.View.{View}
 use Rattle.book.specs.Pages.{empty_view, empty_page, empty_book}
@@ -16,13 +14,11 @@ own = record {
   acts = omega arith;
   stricts = refl;
   written = refl;
-  write_room = length-replicate {A = Written} 512 (record { address = 0; value = 0; rank = 0 });
   writes = λ k e. absurd (false≢true e);
   low = λ k e. absurd (false≢true e);
   last_room = length-replicate {A = ℕ} 64 0;
   last = λ a l. get_or-replicate 64 a 0 0 l;
   notified = refl;
-  notify_room = length-replicate {A = Notified} 512 (record { label = 0; rank = 0 });
   notifies = λ k e. absurd (false≢true e);
   waits = refl;
 }

@@ -1,8 +1,7 @@
 -- A lawful record that is taken is kept.
-use Rattle.std.proofs.Common.{◌≡◌, ℕ, zero, suc, ◌+◌, ◌-◌, ◌<◌, ◌≤◌, Bool, true, false, cond, ◌&&◌, eqb, ltb, leb, List, [], ◌∷◌, ◌++◌, length, take, drop, set, Some, None, Option, sym, refl, ap, ◌∙◌, subst, ⊎_elim, append-nil, arith, length-set, length-take-le, get_or-set_other, get_or-take, get_or-set_same, le-ltb, lt-ltb, eq-eqb, ne_eqb, eqb-true, le-leb, leb-false}
+use Rattle.std.proofs.Common.{◌≡◌, ℕ, zero, suc, ◌<◌, ◌≤◌, Bool, true, false, cond, ◌&&◌, eqb, ltb, leb, List, [], ◌∷◌, ◌++◌, length, set, Some, None, Option, sym, refl, ap, ◌∙◌, subst, ⊎_elim, append-nil, arith, length-set, get_or-set_other, get_or-set_same, le-ltb, lt-ltb, eq-eqb, ne_eqb, eqb-true, le-leb, leb-false}
 use mathlib.Core.Bool.{false≢true}
 use borrow.Author.Tests.{eqb-false}
-use Rattle.std.proofs.lemmas.List.{drop-take}
 use Rattle.std.proofs.lemmas.Bool.{cases_lt, cases_eq}
 use Rattle.record.specs.declared.kinds.Source.{Source}
 use Rattle.record.specs.declared.kinds.Source.TheVariants.{Initial, Write as WriteOf}
@@ -17,7 +16,7 @@ use Rattle.model.specs.Laws.{first_edition as E, by_axioms, with_named}
 use Rattle.model.specs.Lawful.{verdict}
 use Rattle.model.specs.Rank.{rank}
 use Rattle.model.proofs.Renamed.{IsAt, place_is}
-use Rattle.model.proofs.Rank.{at-event}
+use Rattle.model.proofs.Rank.{write-event, notify-event, at-event, observed-event}
 use Rattle.model.proofs.WellMade.{SourceFits, Fits}
 use Rattle.book.specs.declared.pages.Written.{Written}
 use Rattle.book.specs.declared.pages.Notified.{Notified}
@@ -25,12 +24,10 @@ use Rattle.book.specs.declared.pages.Page.{Page}
 use Rattle.book.specs.declared.views.View.{View}
 use Rattle.book.specs.declared.book.Book.{Book}
 use Rattle.book.specs.Pages.{view_at, page_at, is_full, noting, written_up, fitting}
-use Rattle.book.specs.Views.{covering, passing, observing, observing_write, observing_notify, read_observing, wait_observing}
+use Rattle.book.specs.Views.{covering, observing, observing_write, observing_notify, read_observing, wait_observing}
 use Rattle.book.specs.Taken.{with_view, viewed, read_observed, wait_observed, waiting, source_observed, observed_by, entered, taken}
-use Rattle.book.specs.Kept.{up_to, OwnKept, ViewKept, PageKept, Kept, WellMadeIn}
-use Rattle.book.proofs.Ranks.{Events, observed-events, write-event, notify-event}
-use Rattle.book.proofs.Numbers.{up_to-less, count-few}
-use Rattle.book.proofs.Observing.{Listing, saw-fence, saw-write, view-grown}
+use Rattle.book.specs.Kept.{OwnKept, ViewKept, PageKept, Kept, WellMadeIn}
+use Rattle.book.proofs.Observing.{Events, saw-fence, saw-write, view-grown}
 use Rattle.book.proofs.Own.{own-written-up, Low}
 use Rattle.book.proofs.Saying.{room, fits_in, fits-fitting, thread-below, written_there, notified_there, write-is, notify-is}
 
@@ -50,26 +47,13 @@ notify-no-write (x ∷ xs) (suc k) e = notify-no-write xs k e
 
 module _ (v : View) (q : Page) (n : ℕ) (xs : List Record) (seen : List ℕ) (ev : Events xs seen) (kept : ViewKept v xs seen) (own : OwnKept q n xs) where
   abbrev ws : List Written
-  ws = take q.written q.writes
-
-  long : length ws ≡ how_many is_write xs
-  long = length-take-le q.written q.writes (omega (arith, own.written, own.write_room, own.few, own.acts, count-few is_write xs)) ∙ own.written
-
-  same : Listing xs ws
-  same k e = get_or-take q.written q.writes (up_to is_write xs k) (record { address = 0; value = 0; rank = 0 }) (let z = up_to-less is_write xs k e in omega (arith, own.written)) ∙ own.writes k e
-
-  observing-is : (m : ℕ) → observing v q m ≡ passing m (drop v.passed ws) v
-  observing-is m =
-      let le : v.passed ≤ q.written = omega (arith, own.written, kept.within) in
-      let e : v.passed + (q.written - v.passed) ≡ q.written = omega arith in
-      (λ i. cond (le-leb v.passed q.written le i && le-leb q.written 512 (omega (arith, own.written, own.few, own.acts, count-few is_write xs)) i) (passing m (take (q.written - v.passed) (drop v.passed q.writes)) v) v)
-      ∙ ap (λ (ys : List Written). passing m ys v) (sym (drop-take v.passed (q.written - v.passed) q.writes) ∙ ap (λ (k : ℕ). drop v.passed (take k q.writes)) e)
+  ws = q.writes.items
 
   saw-read : (e : ℕ) → is_at is_write xs e ≡ true → ViewKept (covering (observing v q (suc (rank E xs e))) (at_place 0 address_of xs e) (suc (rank E xs e))) xs (e ∷ seen)
-  saw-read e b = subst (λ (w : View). ViewKept (covering w (at_place 0 address_of xs e) (suc (rank E xs e))) xs (e ∷ seen)) (sym (observing-is (suc (rank E xs e)))) (saw-write xs ws long same v seen ev kept e (at-event is_write (is_event E) write-event xs e b) b)
+  saw-read e b = saw-write xs ws own.written own.writes v seen ev kept e (at-event is_write (is_event E) (write-event E) xs e b) b
 
   saw-notify : (e : ℕ) → is_at is_notify xs e ≡ true → ViewKept (observing v q (suc (rank E xs e))) xs (e ∷ seen)
-  saw-notify e b = subst (λ (w : View). ViewKept w xs (e ∷ seen)) (sym (observing-is (suc (rank E xs e)))) (saw-fence xs ws long same v seen ev kept e (at-event is_notify (is_event E) notify-event xs e b) (notify-no-write xs e b))
+  saw-notify e b = saw-fence xs ws own.written own.writes v seen ev kept e (at-event is_notify (is_event E) (notify-event E) xs e b) (notify-no-write xs e b)
 
   -- a read of the write numbered k, where there is one
   pub read_kept : (k : ℕ) → ViewKept (read_observing v q k) xs (with_named seen (place_of is_write k xs))
@@ -99,7 +83,7 @@ record Midway (T t : ℕ) (h : List Record) (S : ℕ → List ℕ) (ps : List Pa
   views : (u : ℕ) → u < T → (u ≡ t → ⊥) → ViewKept (view_at (page_at ps t).views u) (acts_of u h) (S u)
 
 own_view : (p : Page) (u : ℕ) (v : View) (n : ℕ) (xs : List Record) → OwnKept p n xs → OwnKept (with_view p u v) n xs
-own_view p u v n xs o = record { few = o.few; counted = o.counted; acts = o.acts; stricts = o.stricts; written = o.written; write_room = o.write_room; writes = o.writes; low = o.low; last_room = o.last_room; last = o.last; notified = o.notified; notify_room = o.notify_room; notifies = o.notifies; waits = o.waits }
+own_view p u v n xs o = record { few = o.few; counted = o.counted; acts = o.acts; stricts = o.stricts; written = o.written; writes = o.writes; low = o.low; last_room = o.last_room; last = o.last; notified = o.notified; notifies = o.notifies; waits = o.waits }
 
 begin : (T t : ℕ) (h : List Record) (b : Book) → t < T → Kept T b h → Midway T t h (λ u. observed by_axioms t u h) b.pages
 begin T t h b l k = record { threads = k.threads; eight = k.room; others = λ r m ne. k.pages r m; own = (k.pages t l).own; view_room = (k.pages t l).view_room; views = (k.pages t l).views }
@@ -156,7 +140,7 @@ page-other T x h r p ne k = record {
 }
   where
     go : (u : ℕ) → ViewKept (view_at p.views u) (acts_of u h) (observed by_axioms r u h) → (b : Bool) → ViewKept (view_at p.views u) (acts_of u h ++ cond b (x ∷ []) []) (observed by_axioms r u h)
-    go u kv true = view-grown (acts_of u h) x (view_at p.views u) (observed by_axioms r u h) (observed-events r u h) kv
+    go u kv true = view-grown (acts_of u h) x (view_at p.views u) (observed by_axioms r u h) (observed-event by_axioms r u h) kv
     go u kv false = subst (λ (xs : List Record). ViewKept (view_at p.views u) xs (observed by_axioms r u h)) (sym (append-nil (acts_of u h))) kv
 
 noting-views : (p : Page) (x : Record) → (noting p x).views ≡ p.views
@@ -221,7 +205,7 @@ module _ (T : ℕ) (b : Book) (h : List Record) (kept : Kept T b h) where
     from-other u n lu ne =
         look T t h (seen t) (with_source (WriteOf u n)) ps u (read_observing (view_at (page_at ps t).views u) (page_at ps u) n) lt lu (begin T t h b lt kept)
         (subst (λ (c : Bool). ViewKept (read_observing (view_at (page_at ps t).views u) (page_at ps u) n) (acts_of u h) (with_named (seen t u) (cond c (place_of is_write n (acts_of u h)) None))) (sym (eq-eqb u u refl))
-        (read_kept (view_at (page_at ps t).views u) (page_at ps u) (count_of u h) (acts_of u h) (seen t u) (observed-events t u h) ((kept.pages t lt).views u lu ne) (kept.pages u lu).own n))
+        (read_kept (view_at (page_at ps t).views u) (page_at ps u) (count_of u h) (acts_of u h) (seen t u) (observed-event by_axioms t u h) ((kept.pages t lt).views u lu ne) (kept.pages u lu).own n))
         (λ k l nt nu. elsewhere u n k nu)
 
     mid-source : (s : Source) → SourceFits (room T) s → Midway T t h (with_source s) (source_observed ps t s)
@@ -254,7 +238,7 @@ module _ (T : ℕ) (b : Book) (h : List Record) (kept : Kept T b h) where
         let old : ViewKept (view_at (page_at qs waiter).views m) (acts_of m h) (seen waiter m) = subst (λ (c : Bool). ViewKept (view_at (page_at qs waiter).views m) (acts_of m h) (cond c (with_record h (Wait w) m) (seen waiter m))) (le-ltb m m (omega arith)) (mid.views m lm ne) in
         look T waiter h (up_to_thread m) (up_to_thread (suc m)) qs m (wait_observing (view_at (page_at qs waiter).views m) (page_at qs m) j) lt lm mid
         (subst (λ (c : Bool). ViewKept (wait_observing (view_at (page_at qs waiter).views m) (page_at qs m) j) (acts_of m h) (cond c (with_record h (Wait w) m) (seen waiter m))) (sym (lt-ltb m (suc m) (omega arith)))
-        (wait-kept (view_at (page_at qs waiter).views m) (page_at qs m) (count_of m h) (acts_of m h) (seen waiter m) (observed-events waiter m h) old (mid.others m lm ne).own j))
+        (wait-kept (view_at (page_at qs waiter).views m) (page_at qs m) (count_of m h) (acts_of m h) (seen waiter m) (observed-event by_axioms waiter m h) old (mid.others m lm ne).own j))
         (λ u lu nt nm. next-same m u nm)
 
     all-up-to : (m : ℕ) → m ≤ T → Mid m (waiting m ps waiter j)

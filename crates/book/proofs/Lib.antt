@@ -1,10 +1,7 @@
 pub mod Numbers
-pub mod Ranks
 pub mod Observing
 pub mod Own
 pub mod Saying
 pub mod Entering
 pub mod Asking
 pub mod Empty
-pub mod OverThreads
-pub mod OverWrites

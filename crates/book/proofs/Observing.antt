@@ -1,44 +1,41 @@
 -- What a view keeps, as its reader observes more and as the other thread goes on.
-use Rattle.std.proofs.Common.{◌≡◌, ℕ, zero, suc, ◌+◌, ◌-◌, ◌<◌, ◌≤◌, max, Bool, true, false, cond, ◌&&◌, ◌||◌, eqb, ltb, leb, ◌≢◌, List, [], ◌∷◌, ◌++◌, length, get_or, drop, set, sym, refl, ap, ◌∙◌, subst, ⊎_elim, add-one, arith, length-append, length-set, drop-cons, get_or-set_other, get_or-set_same, ltb-false, ltb-true, le-ltb, lt-ltb, eq-eqb, ne_eqb, eqb-true, le-leb}
+use Rattle.std.proofs.Common.{◌≡◌, ℕ, zero, suc, ◌+◌, ◌-◌, ◌<◌, ◌≤◌, max, Bool, true, false, cond, ◌&&◌, ◌||◌, eqb, ltb, leb, ◌≢◌, List, [], ◌∷◌, ◌++◌, length, get_or, drop, sym, refl, ap, ◌∙◌, subst, ⊎_elim, add-one, arith, length-append, length-set, drop-cons, get_or-set_other, get_or-set_same, ltb-false, ltb-true, le-ltb, lt-ltb, eq-eqb, ne_eqb, eqb-true, le-leb}
 use mathlib.Core.Bool.{false≢true, and-false}
 use borrow.Author.Tests.{lt-leb, eqb-false}
 use Rattle.std.proofs.lemmas.List.{drop_all}
 use Rattle.std.proofs.lemmas.Bool.{cases_lt, cases_order, and_parts, and_from, or_cases, or_left, or_right}
 use Rattle.record.specs.declared.kinds.Record.{Record}
-use Rattle.record.specs.declared.kinds.Record.TheVariants.{Write, Read, Fence, Notify, Wait}
 use Rattle.model.specs.Places.{at_place, is_at, any_below, any_of, how_many}
-use Rattle.model.specs.Events.{is_write, is_write_to, is_event, address_of, precedes, covered, written_to, written_behind}
+use Rattle.model.specs.Events.{is_write, is_write_to, is_event, address_of, Each, precedes, covered, written_to, written_behind}
 use Rattle.model.specs.Laws.{first_edition as E}
 use Rattle.model.specs.Rank.{rank, top_seen, top_covered}
 use Rattle.model.proofs.Places.{AllInside, at-grown, at-past, any_same, covered-grown}
 use Rattle.model.proofs.Renamed.{bool_same, any-in, any_out}
-use Rattle.model.proofs.Rank.{at-event}
+use Rattle.model.proofs.Rank.{back, below-max, by-top, write-event, at-event, at-write-to, reached}
 use Rattle.book.specs.declared.pages.Written.{Written}
 use Rattle.book.specs.declared.views.View.{View}
 use Rattle.book.specs.Pages.{write_at}
 use Rattle.book.specs.Views.{raised, passing}
 use Rattle.book.specs.Kept.{up_to, last_to, written_at, ViewKept}
-use Rattle.book.proofs.Ranks.{Events, back, below-max, by-top, write-event, reached, same-below}
 use Rattle.book.proofs.Numbers.{is-inside, count-end, up_to-grown, up_to-end, up_to-less, up_to-ltb, up_to-same, up_to-order, placed, rank-grown}
 
--- a write to a is a write, and its address is a
-pub to_write : (xs : List Record) (a k : ℕ) → is_at (is_write_to a) xs k ≡ (is_at is_write xs k && eqb (at_place 0 address_of xs k) a)
-to_write [] a k = refl
-to_write (x ∷ xs) a zero = kinds x
-  where
-    kinds : (x : Record) → is_write_to a x ≡ (is_write x && eqb (address_of x) a)
-    kinds (Write w) = refl
-    kinds (Read r) = refl
-    kinds (Fence f) = refl
-    kinds (Notify n) = refl
-    kinds (Wait w) = refl
-to_write (x ∷ xs) a (suc k) = to_write xs a k
+-- places of events
+abbrev pub Events : List Record → List ℕ → Type 0
+Events xs seen = Each (is_at (is_event E) xs) seen
+
+-- numbers that the same numbers are below are the same
+same-below : (a b : ℕ) → ((n : ℕ) → ltb n a ≡ ltb n b) → a ≡ b
+same-below a b h =
+    ⊎_elim
+    (λ (l : a < b). absurd (omega (arith, ltb-true a a (h a ∙ lt-ltb a b l))))
+    (λ (l : b ≤ a). ⊎_elim (λ (m : b < a). absurd (omega (arith, ltb-true b b (sym (h b) ∙ lt-ltb b a m)))) (λ (m : a ≤ b). omega arith) (cases_lt b a))
+    (cases_lt a b)
 
 pub to-parts : (xs : List Record) (a k : ℕ) → is_at (is_write_to a) xs k ≡ true → (is_at is_write xs k ≡ true) × (at_place 0 address_of xs k ≡ a)
-to-parts xs a k e = let p = and_parts (is_at is_write xs k) (eqb (at_place 0 address_of xs k) a) (sym (to_write xs a k) ∙ e) in (p.0, eqb-true (at_place 0 address_of xs k) a p.1)
+to-parts xs a k e = let p = and_parts (is_at is_write xs k) (eqb (at_place 0 address_of xs k) a) (sym (at-write-to a xs k) ∙ e) in (p.0, eqb-true (at_place 0 address_of xs k) a p.1)
 
 pub to-from : (xs : List Record) (a k : ℕ) → is_at is_write xs k ≡ true → at_place 0 address_of xs k ≡ a → is_at (is_write_to a) xs k ≡ true
-to-from xs a k e q = to_write xs a k ∙ (λ i. e i && eq-eqb (at_place 0 address_of xs k) a q i)
+to-from xs a k e q = at-write-to a xs k ∙ (λ i. e i && eq-eqb (at_place 0 address_of xs k) a q i)
 
 if-so : (p q b c : Bool) → (b ≡ true → p ≡ q) → (p && (b && c)) ≡ (q && (b && c))
 if-so p q true c h = λ i. h refl i && c
@@ -104,23 +101,18 @@ module _ (xs : List Record) (f : ℕ → ℕ) where
           (λ i. ltb n (get_or cov a 0) || (to-from xs a w e (q ∙ s) i && at-below n (f w) i))
           ∙ below-max n (get_or cov a 0) (suc (f w))
           ∙ ap (λ (m : ℕ). ltb n m) (sym (get_or-set_same cov a (max (get_or cov a 0) (suc (f w))) 0 here))
-          ∙ ap (λ (x : Bool). ltb n (get_or (cond x (set cov a (max (get_or cov a 0) (suc (f w)))) cov) a 0)) (sym (lt-ltb a 64 l))
           ∙ ap (λ (x : ℕ). ltb n (get_or (raised cov x (suc (f w))) a 0)) (sym s)
       go b q false d =
           let ne : a ≢ b = λ z. eqb-false b a d (sym z) in
-          (λ i. ltb n (get_or cov a 0) || (to_write xs a w i && leb n (f w)))
+          (λ i. ltb n (get_or cov a 0) || (at-write-to a xs w i && leb n (f w)))
           ∙ (λ i. ltb n (get_or cov a 0) || (e i && eqb (q i) a && leb n (f w)))
           ∙ (λ i. ltb n (get_or cov a 0) || (d i && leb n (f w)))
           ∙ or_no (ltb n (get_or cov a 0))
-          ∙ ap (λ (m : ℕ). ltb n m) (sym (kept-other (ltb b 64) ne))
+          ∙ ap (λ (m : ℕ). ltb n m) (sym (get_or-set_other cov b a (max (get_or cov b 0) (suc (f w))) 0 ne))
         where
           or_no : (x : Bool) → (x || false) ≡ x
           or_no true = refl
           or_no false = refl
-
-          kept-other : (x : Bool) → a ≢ b → get_or (cond x (set cov b (max (get_or cov b 0) (suc (f w)))) cov) a 0 ≡ get_or cov a 0
-          kept-other true ne = get_or-set_other cov b a (max (get_or cov b 0) (suc (f w))) 0 ne
-          kept-other false ne = refl
 
 -- a table's numbers are the largest, each counted one higher, exactly if the table is right for every number below them
 module _ (xs : List Record) (f : ℕ → ℕ) (S : ℕ → Bool) (tops : ℕ → ℕ → ℕ) (none : (a : ℕ) → tops a 0 ≡ 0) (more : (a k : ℕ) → tops a (suc k) ≡ max (cond (S k && is_at (is_write_to a) xs k) (suc (f k)) 0) (tops a k)) (cov : List ℕ) where
@@ -145,7 +137,7 @@ pub lasts-from : (xs : List Record) (cov : List ℕ) → ((a : ℕ) → a < 64 �
 lasts-from xs cov = tabled-from xs (up_to is_write xs) (λ k. true) (last_to xs) (λ a. refl) (λ a k. refl) cov
 
 pub room-raised : (cov : List ℕ) (a m : ℕ) → length (raised cov a m) ≡ length cov
-room-raised cov a m = elim (ltb a 64) as (λ b. length (cond b (set cov a (max (get_or cov a 0) m)) cov) ≡ length cov) [ true ↦ length-set cov a _ | false ↦ refl ]
+room-raised cov a m = length-set cov a _
 
 -- Passing over writes ----------------------------------------------------------------------------------------------
 
@@ -232,7 +224,7 @@ module _ (xs : List Record) (ws : List Written) (long : length ws ≡ how_many i
       go next w e p false b = finish v g (λ k f l.
           ⊎_elim
           (λ (m : k < w). absurd (let z = up_to-order is_write xs k w f m in omega arith))
-          (λ (m : w ≤ k). omega (arith, back xs k w m, ltb-false _ _ b))
+          (λ (m : w ≤ k). omega (arith, back E xs k w m, ltb-false _ _ b))
           (cases_lt k w))
 
 -- One more event observed ------------------------------------------------------------------------------------------
@@ -240,7 +232,7 @@ module _ (xs : List Record) (ws : List Written) (long : length ws ≡ how_many i
 -- at a write, covered is in terms of what was observed and passed over
 pub covered-is : (xs : List Record) (seen : List ℕ) → Events xs seen → (i : ℕ) → ((k : ℕ) → is_at is_write xs k ≡ true → ltb (up_to is_write xs k) i ≡ ltb (rank E xs k) (top_seen E xs seen)) → (k : ℕ) → is_at is_write xs k ≡ true → covered E xs seen k ≡ (any_of seen (eqb k) || ltb (up_to is_write xs k) i)
 covered-is xs seen ev i h k e =
-    (λ j. e j && any_of seen (λ f. eqb k f || precedes E xs k f)) ∙ by-top xs k (at-event is_write (is_event E) write-event xs k e) seen ev ∙ ap (λ (b : Bool). any_of seen (eqb k) || b) (sym (h k e))
+    (λ j. e j && any_of seen (λ f. eqb k f || precedes E xs k f)) ∙ by-top E xs k (at-event is_write (is_event E) (write-event E) xs k e) seen ev ∙ ap (λ (b : Bool). any_of seen (eqb k) || b) (sym (h k e))
 
 or_turn : (a b c : Bool) → (a || b || c) ≡ (c || a || b)
 or_turn true b true = refl
@@ -303,7 +295,7 @@ top-grown xs zs (e ∷ es) h = λ i. max (rank-grown xs zs e h.0 i) (top-grown x
 
 top-under : (ys : List Record) (n : ℕ) (seen : List ℕ) → AllInside n seen → top_seen E ys seen ≤ rank E ys n
 top-under ys n [] h = omega arith
-top-under ys n (e ∷ es) h = let l : e ≤ n = omega (arith, h.0) in omega (arith, back ys n e l, top-under ys n es h.1)
+top-under ys n (e ∷ es) h = let l : e ≤ n = omega (arith, h.0) in omega (arith, back E ys n e l, top-under ys n es h.1)
 
 -- the largest rank of a covered write stays
 top-covered-grown : (xs zs : List Record) (seen : List ℕ) (a n : ℕ) → AllInside (length xs) seen → n ≤ length xs → top_covered E (xs ++ zs) seen a n ≡ top_covered E xs seen a n

@@ -1,8 +1,9 @@
 -- What a page keeps of its own thread's records, with one more.
-use Rattle.std.proofs.Common.{◌≡◌, ℕ, zero, suc, ◌+◌, ◌*◌, ◌<◌, ◌≤◌, max, Bool, true, false, cond, ◌&&◌, ◌||◌, eqb, ltb, ◌≢◌, ◌⊎◌, List, [], ◌∷◌, ◌++◌, length, get_or, set, sym, refl, ap, ◌∙◌, subst, inl, inr, ⊎_elim, append-nil, add-one, arith, length-append, length-set, get_or-set_other, get_or-set_same, le-ltb, lt-ltb, eqb-true}
+use Rattle.std.proofs.Common.{◌≡◌, ℕ, zero, suc, ◌+◌, ◌*◌, ◌<◌, ◌≤◌, max, Bool, true, false, cond, ◌&&◌, ◌||◌, eqb, ◌≢◌, ◌⊎◌, List, [], ◌∷◌, ◌++◌, length, get_or, set, sym, refl, ap, ◌∙◌, subst, inl, inr, ⊎_elim, append-nil, add-one, arith, length-append, length-set, get_or-set_other, get_or-set_same, le-ltb, eqb-true}
 use mathlib.Core.Bool.{false≢true}
 use borrow.Author.Tests.{lt-leb, eqb-false}
 use Rattle.std.proofs.lemmas.Bool.{cases_lt}
+use Rattle.std.proofs.lemmas.List.{get_or_append_left, get_or_push}
 use Rattle.record.specs.declared.kinds.Mode.{Mode}
 use Rattle.record.specs.declared.kinds.Mode.TheVariants.{Relaxed, Strict}
 use Rattle.record.specs.declared.kinds.Source.{Source}
@@ -16,13 +17,14 @@ use Rattle.model.specs.Events.{is_write, is_notify, is_wait, is_write_to, is_act
 use Rattle.model.specs.Laws.{first_edition as E}
 use Rattle.model.specs.Rank.{bit, rank, strict_before}
 use Rattle.model.proofs.Places.{at-grown}
+use Rattle.model.proofs.Rank.{at-write-to}
 use Rattle.book.specs.declared.pages.Page.{Page}
 use Rattle.book.specs.Pages.{is_full, strict_of, tallied, next_rank, noting, written_up}
 use Rattle.book.specs.Kept.{up_to, last_to, written_at, notified_at, OwnKept}
 use Rattle.book.proofs.Numbers.{is-inside, at-end, count-end, count-few, up_to-grown, up_to-end, up_to-less, rank-grown, rank-end, stricts-end, stricts-few}
-use Rattle.book.proofs.Observing.{to-parts, to_write}
+use Rattle.book.proofs.Observing.{to-parts}
 
-pub length_more : (xs : List Record) (x : Record) → length (xs ++ x ∷ []) ≡ suc (length xs)
+pub length_more : {A : Type 0} (xs : List A) (x : A) → length (xs ++ x ∷ []) ≡ suc (length xs)
 length_more xs x = length-append xs (x ∷ []) ∙ add-one (length xs)
 
 -- Lists of what such records hold -----------------------------------------------------------------------------------
@@ -41,14 +43,13 @@ module _ {A : Type 0} (p : Record → Bool) (F : List Record → ℕ → A) (gro
       (λ (q : k ≡ length xs). absurd (false≢true (sym f ∙ sym (at-end false p xs x) ∙ ap (is_at p (xs ++ x ∷ [])) (sym q) ∙ e)))
       (here xs x k e)
 
-  pub listed_more : (ys : List A) (xs : List Record) (x : Record) (y : A) → how_many p xs < length ys → y ≡ F (xs ++ x ∷ []) (length xs) → Listed ys xs → Listed (set ys (how_many p xs) y) (xs ++ x ∷ [])
-  listed_more ys xs x y room z h k e =
+  pub listed_more : (ys : List A) (xs : List Record) (x : Record) (y : A) → length ys ≡ how_many p xs → y ≡ F (xs ++ x ∷ []) (length xs) → Listed ys xs → Listed (ys ++ y ∷ []) (xs ++ x ∷ [])
+  listed_more ys xs x y long z h k e =
       ⊎_elim
       (λ (l : k < length xs).
       let f : is_at p xs k ≡ true = sym (at-grown false p xs (x ∷ []) k l) ∙ e in
-      let ne : up_to p xs k ≢ how_many p xs = λ q. (let m = up_to-less p xs k f in omega arith) in
-      ap (λ (n : ℕ). get_or (set ys (how_many p xs) y) n d) (up_to-grown p xs (x ∷ []) k (omega arith)) ∙ get_or-set_other ys (how_many p xs) (up_to p xs k) y d ne ∙ h k f ∙ sym (grown xs (x ∷ []) k l))
-      (λ (q : k ≡ length xs). ap (λ (n : ℕ). get_or (set ys (how_many p xs) y) n d) (ap (up_to p (xs ++ x ∷ [])) q ∙ up_to-end p xs x) ∙ get_or-set_same ys (how_many p xs) y d room ∙ z ∙ ap (F (xs ++ x ∷ [])) (sym q))
+      ap (λ (n : ℕ). get_or (ys ++ y ∷ []) n d) (up_to-grown p xs (x ∷ []) k (omega arith)) ∙ get_or_append_left ys (y ∷ []) d (up_to p xs k) (let m = up_to-less p xs k f in omega arith) ∙ h k f ∙ sym (grown xs (x ∷ []) k l))
+      (λ (q : k ≡ length xs). ap (λ (n : ℕ). get_or (ys ++ y ∷ []) n d) (ap (up_to p (xs ++ x ∷ [])) q ∙ up_to-end p xs x) ∙ get_or_push ys y d (how_many p xs) long ∙ z ∙ ap (F (xs ++ x ∷ [])) (sym q))
       (here xs x k e)
 
 written-grown : (xs zs : List Record) (k : ℕ) → k < length xs → written_at (xs ++ zs) k ≡ written_at xs k
@@ -82,14 +83,11 @@ lasts-same xs x ls f h a l =
     h a l
     ∙ sym
     (last_end xs x a
-    ∙ ap (λ (b : Bool). max (cond b (suc (how_many is_write xs)) 0) (last_to xs a (length xs))) (to_write (x ∷ []) a 0 ∙ ap (λ (b : Bool). b && eqb (address_of x) a) f)
+    ∙ ap (λ (b : Bool). max (cond b (suc (how_many is_write xs)) 0) (last_to xs a (length xs))) (at-write-to a (x ∷ []) 0 ∙ ap (λ (b : Bool). b && eqb (address_of x) a) f)
     ∙ omega arith)
 
-lasts-more : (xs : List Record) (w : WriteRecord) (ls : List ℕ) → w.address < 64 → length ls ≡ 64 → Lasts xs ls → Lasts (xs ++ Write w ∷ []) (cond (ltb w.address 64) (set ls w.address (how_many is_write xs + 1)) ls)
-lasts-more xs w ls fit room h a l =
-    ap (λ (b : Bool). get_or (cond b (set ls w.address (how_many is_write xs + 1)) ls) a 0) (lt-ltb w.address 64 fit)
-    ∙ go (eqb w.address a) refl
-    ∙ sym (last_end xs (Write w) a)
+lasts-more : (xs : List Record) (w : WriteRecord) (ls : List ℕ) → length ls ≡ 64 → Lasts xs ls → Lasts (xs ++ Write w ∷ []) (set ls w.address (how_many is_write xs + 1))
+lasts-more xs w ls room h a l = go (eqb w.address a) refl ∙ sym (last_end xs (Write w) a)
   where
     go : (b : Bool) → eqb w.address a ≡ b → get_or (set ls w.address (how_many is_write xs + 1)) a 0 ≡ max (cond b (suc (how_many is_write xs)) 0) (last_to xs a (length xs))
     go true d =
@@ -123,8 +121,8 @@ pub not_full : (p : Page) (n : ℕ) (xs : List Record) → OwnKept p n xs → n 
 not_full p n xs o l = λ i.
     lt-leb 512 p.count (omega (arith, o.counted)) i
     || le-ltb 512 p.strict (omega (arith, o.stricts, o.acts, stricts-few xs (length xs))) i
-    || lt-leb 512 p.written (omega (arith, o.written, o.acts, count-few is_write xs)) i
-    || lt-leb 512 p.notified (omega (arith, o.notified, o.acts, count-few is_notify xs)) i
+    || lt-leb 512 (length p.writes.items) (omega (arith, o.written, o.acts, count-few is_write xs)) i
+    || lt-leb 512 (length p.notifies.items) (omega (arith, o.notified, o.acts, count-few is_notify xs)) i
     || lt-leb 512 p.waits (omega (arith, o.waits, o.acts, count-few is_wait xs)) i
 
 -- the address of a write is below 64
@@ -148,6 +146,9 @@ module _ (p : Page) (n : ℕ) (xs : List Record) (o : OwnKept p n xs) (l : n < 5
   counts-more : (q : Record → Bool) (x : Record) (m : ℕ) → m ≡ how_many q xs → q x ≡ true → m + 1 ≡ how_many q (xs ++ x ∷ [])
   counts-more q x m e f = omega (arith, count-end q xs x, ap bit f)
 
+  lists-more : {A : Type 0} (q : Record → Bool) (x : Record) (ys : List A) (y : A) → length ys ≡ how_many q xs → q x ≡ true → length (ys ++ y ∷ []) ≡ how_many q (xs ++ x ∷ [])
+  lists-more q x ys y e f = length_more ys y ∙ sym (add-one (length ys)) ∙ counts-more q x (length ys) e f
+
   -- a record that has no place
   own-none : OwnKept (tallied p 0) (suc n) xs
   own-none = record {
@@ -156,13 +157,11 @@ module _ (p : Page) (n : ℕ) (xs : List Record) (o : OwnKept p n xs) (l : n < 5
     acts = omega (arith, o.acts);
     stricts = omega (arith, o.stricts);
     written = o.written;
-    write_room = o.write_room;
     writes = o.writes;
     low = o.low;
     last_room = o.last_room;
     last = o.last;
     notified = o.notified;
-    notify_room = o.notify_room;
     notifies = o.notifies;
     waits = o.waits;
   }
@@ -174,15 +173,13 @@ module _ (p : Page) (n : ℕ) (xs : List Record) (o : OwnKept p n xs) (l : n < 5
     counted = omega (arith, o.counted);
     acts = omega (arith, length_more xs x, o.acts);
     stricts = tallies x;
-    written = counts is_write x p.written o.written w;
-    write_room = o.write_room;
-    writes = listed_same is_write written_at written-grown _ p.writes xs x w o.writes;
+    written = counts is_write x (length p.writes.items) o.written w;
+    writes = listed_same is_write written_at written-grown _ p.writes.items xs x w o.writes;
     low = lows-more xs x (λ e. absurd (false≢true (sym w ∙ e))) o.low;
     last_room = o.last_room;
     last = lasts-same xs x p.last w o.last;
-    notified = counts is_notify x p.notified o.notified y;
-    notify_room = o.notify_room;
-    notifies = listed_same is_notify notified_at notified-grown _ p.notifies xs x y o.notifies;
+    notified = counts is_notify x (length p.notifies.items) o.notified y;
+    notifies = listed_same is_notify notified_at notified-grown _ p.notifies.items xs x y o.notifies;
     waits = counts is_wait x p.waits o.waits z;
   }
 
@@ -192,15 +189,13 @@ module _ (p : Page) (n : ℕ) (xs : List Record) (o : OwnKept p n xs) (l : n < 5
     counted = omega (arith, o.counted);
     acts = omega (arith, length_more xs (Wait w), o.acts);
     stricts = tallies (Wait w);
-    written = counts is_write (Wait w) p.written o.written refl;
-    write_room = o.write_room;
-    writes = listed_same is_write written_at written-grown _ p.writes xs (Wait w) refl o.writes;
+    written = counts is_write (Wait w) (length p.writes.items) o.written refl;
+    writes = listed_same is_write written_at written-grown _ p.writes.items xs (Wait w) refl o.writes;
     low = lows-more xs (Wait w) (λ e. absurd (false≢true e)) o.low;
     last_room = o.last_room;
     last = lasts-same xs (Wait w) p.last refl o.last;
-    notified = counts is_notify (Wait w) p.notified o.notified refl;
-    notify_room = o.notify_room;
-    notifies = listed_same is_notify notified_at notified-grown _ p.notifies xs (Wait w) refl o.notifies;
+    notified = counts is_notify (Wait w) (length p.notifies.items) o.notified refl;
+    notifies = listed_same is_notify notified_at notified-grown _ p.notifies.items xs (Wait w) refl o.notifies;
     waits = counts-more is_wait (Wait w) p.waits o.waits refl;
   }
 
@@ -210,16 +205,13 @@ module _ (p : Page) (n : ℕ) (xs : List Record) (o : OwnKept p n xs) (l : n < 5
     counted = omega (arith, o.counted);
     acts = omega (arith, length_more xs (Notify y), o.acts);
     stricts = tallies (Notify y);
-    written = counts is_write (Notify y) p.written o.written refl;
-    write_room = o.write_room;
-    writes = listed_same is_write written_at written-grown _ p.writes xs (Notify y) refl o.writes;
+    written = counts is_write (Notify y) (length p.writes.items) o.written refl;
+    writes = listed_same is_write written_at written-grown _ p.writes.items xs (Notify y) refl o.writes;
     low = lows-more xs (Notify y) (λ e. absurd (false≢true e)) o.low;
     last_room = o.last_room;
     last = lasts-same xs (Notify y) p.last refl o.last;
-    notified = counts-more is_notify (Notify y) p.notified o.notified refl;
-    notify_room = length-set p.notifies p.notified _ ∙ o.notify_room;
-    notifies = subst (λ (i : ℕ). Listed is_notify notified_at notified-grown (record { label = 0; rank = 0 }) (set p.notifies i (record { label = y.label; rank = next_rank p (Notify y) })) (xs ++ Notify y ∷ [])) (sym o.notified)
-        (listed_more is_notify notified_at notified-grown _ p.notifies xs (Notify y) _ (omega (arith, o.notify_room, o.acts, count-few is_notify xs)) (λ i. record { label = sym (at-end 0 label_of xs (Notify y)) i; rank = ranks (Notify y) i }) o.notifies);
+    notified = lists-more is_notify (Notify y) p.notifies.items _ o.notified refl;
+    notifies = listed_more is_notify notified_at notified-grown _ p.notifies.items xs (Notify y) _ o.notified (λ i. record { label = sym (at-end 0 label_of xs (Notify y)) i; rank = ranks (Notify y) i }) o.notifies;
     waits = counts is_wait (Notify y) p.waits o.waits refl;
   }
 
@@ -229,16 +221,13 @@ module _ (p : Page) (n : ℕ) (xs : List Record) (o : OwnKept p n xs) (l : n < 5
     counted = omega (arith, o.counted);
     acts = omega (arith, length_more xs (Write w), o.acts);
     stricts = tallies (Write w);
-    written = counts-more is_write (Write w) p.written o.written refl;
-    write_room = length-set p.writes p.written _ ∙ o.write_room;
-    writes = subst (λ (i : ℕ). Listed is_write written_at written-grown (record { address = 0; value = 0; rank = 0 }) (set p.writes i (record { address = w.address; value = w.value; rank = next_rank p (Write w) })) (xs ++ Write w ∷ [])) (sym o.written)
-        (listed_more is_write written_at written-grown _ p.writes xs (Write w) _ (omega (arith, o.write_room, o.acts, count-few is_write xs)) (λ i. record { address = sym (at-end 0 address_of xs (Write w)) i; value = sym (at-end 0 value_of xs (Write w)) i; rank = ranks (Write w) i }) o.writes);
+    written = lists-more is_write (Write w) p.writes.items _ o.written refl;
+    writes = listed_more is_write written_at written-grown _ p.writes.items xs (Write w) _ o.written (λ i. record { address = sym (at-end 0 address_of xs (Write w)) i; value = sym (at-end 0 value_of xs (Write w)) i; rank = ranks (Write w) i }) o.writes;
     low = lows-more xs (Write w) (λ e. fit) o.low;
-    last_room = elim (ltb w.address 64) as (λ b. length (cond b (set p.last w.address (p.written + 1)) p.last) ≡ 64) [ true ↦ length-set p.last w.address _ ∙ o.last_room | false ↦ o.last_room ];
-    last = subst (λ (i : ℕ). Lasts (xs ++ Write w ∷ []) (cond (ltb w.address 64) (set p.last w.address (i + 1)) p.last)) (sym o.written) (lasts-more xs w p.last fit o.last_room o.last);
-    notified = counts is_notify (Write w) p.notified o.notified refl;
-    notify_room = o.notify_room;
-    notifies = listed_same is_notify notified_at notified-grown _ p.notifies xs (Write w) refl o.notifies;
+    last_room = length-set p.last w.address _ ∙ o.last_room;
+    last = subst (λ (i : ℕ). Lasts (xs ++ Write w ∷ []) (set p.last w.address (i + 1))) (sym o.written) (lasts-more xs w p.last o.last_room o.last);
+    notified = counts is_notify (Write w) (length p.notifies.items) o.notified refl;
+    notifies = listed_same is_notify notified_at notified-grown _ p.notifies.items xs (Write w) refl o.notifies;
     waits = counts is_wait (Write w) p.waits o.waits refl;
   }
 

@@ -1,7 +1,7 @@
 -- What the book says of a record is its verdict.
-use Rattle.std.proofs.Common.{◌≡◌, ℕ, suc, ◌+◌, ◌-◌, ◌<◌, ◌≤◌, Bool, true, false, cond, not, ◌&&◌, ◌||◌, eqb, ltb, leb, List, get_or, is_some, Some, None, Option, sym, refl, ap, ◌∙◌, inl, inr, arith, le-ltb, lt-ltb, eq-eqb, ne_eqb, eqb-true, le-leb}
-use mathlib.Core.Bool.{and-false}
-use borrow.Author.Tests.{lt-leb, eqb-false}
+use Rattle.std.proofs.Common.{◌≡◌, ℕ, suc, ◌+◌, ◌-◌, ◌<◌, ◌≤◌, Bool, true, false, cond, not, ◌&&◌, ◌||◌, eqb, ltb, leb, List, length, get_or, slice_get, is_some, Some, None, Option, sym, refl, ap, ◌∙◌, inl, inr, add-one, arith, le-ltb, lt-ltb, eq-eqb, eqb-true, le-leb}
+use borrow.Author.Tests.{eqb-false}
+use Rattle.std.proofs.lemmas.Option.{slice_get-get_or, slice_get_past}
 use Rattle.record.specs.declared.kinds.Counts.{Counts}
 use Rattle.record.specs.declared.kinds.Source.{Source}
 use Rattle.record.specs.declared.kinds.Source.TheVariants.{Initial, Write as WriteOf}
@@ -28,7 +28,7 @@ use Rattle.book.specs.Pages.{write_at, notify_at, view_at, page_at, write_of, no
 use Rattle.book.specs.Views.{overwritten_in, is_overwritten_for, is_initial_gone_for}
 use Rattle.book.specs.Said.{any_covered, any_missing, any_other_label, stale, said_write, said_read, said_initial, said_source, said_notify, said_wait, said_kind, said}
 use Rattle.book.specs.Kept.{up_to, written_at, notified_at, OwnKept, Kept, WellMadeIn}
-use Rattle.book.proofs.Numbers.{Numbered, place-numbered, up_to-less, count-few}
+use Rattle.book.proofs.Numbers.{Numbered, place-numbered, up_to-less}
 use Rattle.book.proofs.Observing.{written-to-is, written-behind-is}
 
 -- Well-made records -------------------------------------------------------------------------------------------------
@@ -81,17 +81,15 @@ notified_there xs (Some k) = Some (notified_at xs k)
 
 module _ (q : Page) (c : ℕ) (xs : List Record) (o : OwnKept q c xs) where
   write-by : (n : ℕ) (r : Option ℕ) → Numbered is_write n xs r → write_of q n ≡ written_there xs r
-  write-by n None (inl z) = λ j. cond (le-ltb 0 n (omega arith) j && leb n q.written && leb n 512) (Some (write_at q.writes (n - 1))) None
-  write-by n None (inr l) =
-      ap (λ (b : Bool). cond (ltb 0 n && b && leb n 512) (Some (write_at q.writes (n - 1))) None) (lt-leb n q.written (omega (arith, o.written)))
-      ∙ ap (λ (b : Bool). cond (b && leb n 512) (Some (write_at q.writes (n - 1))) None) (and-false (ltb 0 n))
+  write-by n None (inl z) = ap (λ (b : Bool). cond b (slice_get q.writes.items (n - 1)) None) (le-ltb 0 n (omega arith))
+  write-by n None (inr l) = ap (λ (b : Bool). cond b (slice_get q.writes.items (n - 1)) None) (lt-ltb 0 n (omega arith)) ∙ slice_get_past q.writes.items (n - 1) (omega (arith, o.written))
   write-by n (Some k) z =
       let less = up_to-less is_write xs k z.0 in
-      let few = count-few is_write xs in
       let s : suc (up_to is_write xs k) ≡ n = z.1 in
       let i : n - 1 ≡ up_to is_write xs k = omega arith in
-      (λ j. cond (lt-ltb 0 n (omega arith) j && le-leb n q.written (omega (arith, o.written)) j && le-leb n 512 (omega (arith, o.few, o.acts)) j) (Some (write_at q.writes (n - 1))) None)
-      ∙ ap Some (ap (write_at q.writes) i ∙ o.writes k z.0)
+      ap (λ (b : Bool). cond b (slice_get q.writes.items (n - 1)) None) (lt-ltb 0 n (omega arith))
+      ∙ slice_get-get_or q.writes.items (n - 1) (record { address = 0; value = 0; rank = 0 }) (omega (arith, o.written))
+      ∙ ap Some (ap (write_at q.writes.items) i ∙ o.writes k z.0)
 
   -- the write numbered n
   pub write-is : (n : ℕ) → write_of q n ≡ written_there xs (place_of is_write n xs)
@@ -99,14 +97,13 @@ module _ (q : Page) (c : ℕ) (xs : List Record) (o : OwnKept q c xs) where
 
   notify-by : (j : ℕ) (r : Option ℕ) → Numbered is_notify (suc j) xs r → notify_of q j ≡ notified_there xs r
   notify-by j None (inl z) = absurd (omega arith)
-  notify-by j None (inr l) = ap (λ (b : Bool). cond (b && ltb j 512) (Some (notify_at q.notifies j)) None) (le-ltb j q.notified (omega (arith, o.notified)))
+  notify-by j None (inr l) = slice_get_past q.notifies.items j (omega (arith, o.notified))
   notify-by j (Some k) z =
       let less = up_to-less is_notify xs k z.0 in
-      let few = count-few is_notify xs in
       let s : suc (up_to is_notify xs k) ≡ suc j = z.1 in
       let i : j ≡ up_to is_notify xs k = omega arith in
-      (λ m. cond (lt-ltb j q.notified (omega (arith, o.notified)) m && lt-ltb j 512 (omega (arith, o.few, o.acts)) m) (Some (notify_at q.notifies j)) None)
-      ∙ ap Some (ap (notify_at q.notifies) i ∙ o.notifies k z.0)
+      slice_get-get_or q.notifies.items j (record { label = 0; rank = 0 }) (omega (arith, o.notified))
+      ∙ ap Some (ap (notify_at q.notifies.items) i ∙ o.notifies k z.0)
 
   -- the notify of phase j
   pub notify-is : (j : ℕ) → notify_of q j ≡ notified_there xs (place_of is_notify (suc j) xs)
@@ -147,14 +144,14 @@ module _ (T : ℕ) (b : Book) (h : List Record) (kept : Kept T b h) where
     later-is q =
         (λ i. is_later_written (page_at ps (sym q i)) n)
         ∙ ap (later_than (page_at ps u) n) there
-        ∙ (λ i. lt-ltb a 64 la i && ltb (sym s i) (get_or (page_at ps u).last a 0))
+        ∙ (λ i. ltb (sym s i) (get_or (page_at ps u).last a 0))
         ∙ sym (written-behind-is (acts_of u h) (page_at ps u).last k a la e (own u lu).last)
 
     -- another thread's write
     overwritten-is : (u ≡ r → ⊥) → is_overwritten_for (view_at (page_at ps r).views u) (page_at ps u) n ≡ overwritten E (acts_of u h) (observed by_axioms r u h) k
     overwritten-is ne =
         ap (overwritten_in (view_at (page_at ps r).views u)) there
-        ∙ (λ i. lt-ltb a 64 la i && ltb (suc (rank E (acts_of u h) k)) (((kept.pages r lr).views u lu ne).reached a la i))
+        ∙ (λ i. ltb (suc (rank E (acts_of u h) k)) (((kept.pages r lr).views u lu ne).reached a la i))
         ∙ sym (overwritten_by_rank E (acts_of u h) (observed by_axioms r u h) k e)
 
     pub stale-is : (d : ℕ) → a ≡ d → stale ps r u n ≡ cond (eqb u r && written_behind (acts_of u h) k d) (Some OwnLaterWrite) (cond (not (eqb u r) && overwritten E (acts_of u h) (observed by_axioms r u h) k) (Some Overwritten) None)
@@ -191,27 +188,27 @@ module _ (T : ℕ) (b : Book) (h : List Record) (kept : Kept T b h) where
       by_place None z e = refl
       by_place (Some k) z e = found k z.0 z.1 e (eqb (at_place 0 address_of xs k) r.address) (eqb (at_place 0 value_of xs k) r.value) refl refl
 
-      read_is : said_read ps r u n ≡ first_applying (read_reasons E T (before (λ v. source_in v h (WriteOf u n))) r (WriteOf u n))
+      read_is : said_read ps r.thread r u n ≡ first_applying (read_reasons E T (before (λ v. source_in v h (WriteOf u n))) r (WriteOf u n))
       read_is =
           let e = write-is (page_at ps u) (count_of u h) xs (own u lu) n in
           ap (said_write r (stale ps r.thread u n)) e
           ∙ by_place (place_of is_write n xs) (place-numbered is_write n xs) e
           ∙ ap (λ (c : Bool). reasons u (cond c (place_of is_write n xs) None)) (sym (eq-eqb u u refl))
 
-    initial-is : said_initial T ps r ≡ first_applying (read_reasons E T (before (λ v. source_in v h Initial)) r Initial)
+    initial-is : said_initial T ps r.thread r ≡ first_applying (read_reasons E T (before (λ v. source_in v h Initial)) r Initial)
     initial-is = go (eqb r.value 0)
       where
-        there : (u : ℕ) → u < T → (c : Bool) → eqb u r.thread ≡ c → (not c && is_initial_gone_for (view_at (page_at ps r.thread).views u) r.address) ≡ (not c && covered_to E (acts_of u h) (observed by_axioms r.thread u h) r.address)
+        there : (u : ℕ) → u < T → (c : Bool) → eqb u r.thread ≡ c → (not c && is_initial_gone_for (view_at (page_at ps r.thread).views u) (page_at ps u) r.address) ≡ (not c && covered_to E (acts_of u h) (observed by_axioms r.thread u h) r.address)
         there u l true d = refl
         there u l false d =
-            (λ i. lt-ltb r.address 64 la i && ltb 0 (((kept.pages r.thread lr).views u l (eqb-false u r.thread d)).reached r.address la i))
+            (λ i. ltb 0 (((kept.pages r.thread lr).views u l (eqb-false u r.thread d)).reached r.address la i))
             ∙ sym (initial_gone_by_rank E (acts_of u h) (observed by_axioms r.thread u h) r.address)
 
         here : is_written_to (page_at ps r.thread) r.address ≡ written_to (acts_of r.thread h) r.address
-        here = ap (λ (c : Bool). c && ltb 0 (get_or (page_at ps r.thread).last r.address 0)) (lt-ltb r.address 64 la) ∙ sym (written-to-is (acts_of r.thread h) (page_at ps r.thread).last r.address la (own r.thread lr).last)
+        here = sym (written-to-is (acts_of r.thread h) (page_at ps r.thread).last r.address la (own r.thread lr).last)
 
         tests : (is_written_to (page_at ps r.thread) r.address || any_covered T ps r.thread r.address) ≡ (written_to (acts_of r.thread h) r.address || any_below T (λ u. not (eqb u r.thread) && covered_to E (acts_of u h) (observed by_axioms r.thread u h) r.address))
-        tests = λ i. here i || any_same T (λ u. not (eqb u r.thread) && is_initial_gone_for (view_at (page_at ps r.thread).views u) r.address) (λ u. not (eqb u r.thread) && covered_to E (acts_of u h) (observed by_axioms r.thread u h) r.address) (λ u l. there u l (eqb u r.thread) refl) i
+        tests = λ i. here i || any_same T (λ u. not (eqb u r.thread) && is_initial_gone_for (view_at (page_at ps r.thread).views u) (page_at ps u) r.address) (λ u. not (eqb u r.thread) && covered_to E (acts_of u h) (observed by_axioms r.thread u h) r.address) (λ u l. there u l (eqb u r.thread) refl) i
 
         go : (c : Bool) → cond c (cond (is_written_to (page_at ps r.thread) r.address || any_covered T ps r.thread r.address) (Some InitialGone) None) (Some OtherValue) ≡ cond (not c) (Some OtherValue) (cond (written_to (acts_of r.thread h) r.address || any_below T (λ u. not (eqb u r.thread) && covered_to E (acts_of u h) (observed by_axioms r.thread u h) r.address)) (Some InitialGone) None)
         go true = ap (λ (c : Bool). cond c (Some InitialGone) None) tests
@@ -248,18 +245,14 @@ module _ (T : ℕ) (b : Book) (h : List Record) (kept : Kept T b h) where
     unlike-is : any_other_label T ps j w.label ≡ any_below T unlike
     unlike-is = any_same T _ _ (λ u m. label_is (page_at ps u) (count_of u h) (acts_of u h) (own u m) j w.label)
 
-    turn : (ltb (page_at ps r).waits 512 && eqb (page_at ps r).notified ((page_at ps r).waits + 1)) ≡ eqb (how_many is_notify (acts_of r h)) (suc j)
-    turn = (λ i. ltb ((own r lr).waits i) 512 && eqb ((own r lr).notified i) ((own r lr).waits i + 1)) ∙ go (eqb (how_many is_notify (acts_of r h)) (suc j)) refl
-      where
-        go : (c : Bool) → eqb (how_many is_notify (acts_of r h)) (suc j) ≡ c → (ltb j 512 && eqb (how_many is_notify (acts_of r h)) (j + 1)) ≡ c
-        go true d = let z = eqb-true (how_many is_notify (acts_of r h)) (suc j) d in λ i. lt-ltb j 512 (omega (arith, (own r lr).few, (own r lr).acts, count-few is_notify (acts_of r h))) i && eq-eqb (how_many is_notify (acts_of r h)) (j + 1) (omega arith) i
-        go false d = ap (λ (c : Bool). ltb j 512 && c) (ne_eqb (how_many is_notify (acts_of r h)) (j + 1) (λ z. eqb-false (how_many is_notify (acts_of r h)) (suc j) d (omega arith))) ∙ and-false (ltb j 512)
+    turn : eqb (length (page_at ps r).notifies.items) ((page_at ps r).waits + 1) ≡ eqb (how_many is_notify (acts_of r h)) (suc j)
+    turn = (λ i. eqb ((own r lr).notified i) ((own r lr).waits i + 1)) ∙ ap (eqb (how_many is_notify (acts_of r h))) (add-one j)
 
     turned : (c : Bool) (o : Option Reason) → cond c o (Some WaitOutOfTurn) ≡ cond (not c) (Some WaitOutOfTurn) o
     turned true o = refl
     turned false o = refl
 
-    wait-said : said_wait T ps w ≡ first_applying (kind_reasons E T (before_of by_axioms h (Wait w)) (Wait w))
+    wait-said : said_wait T ps r w.label ≡ first_applying (kind_reasons E T (before_of by_axioms h (Wait w)) (Wait w))
     wait-said =
         (λ i. cond (turn i) (cond (any_missing T ps r ((own r lr).waits i)) (Some NotifyMissing) (cond (any_other_label T ps ((own r lr).waits i) w.label) (Some OtherLabel) None)) (Some WaitOutOfTurn))
         ∙ (λ i. cond (eqb (how_many is_notify (acts_of r h)) (suc j)) (cond (lost-is i) (Some NotifyMissing) (cond (unlike-is i) (Some OtherLabel) None)) (Some WaitOutOfTurn))

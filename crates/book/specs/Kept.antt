@@ -47,15 +47,13 @@ pub record OwnKept (p : Page) (n : ℕ) (xs : List Record) : Type 0 where
   pub counted : p.count ≡ n
   pub acts : length xs ≤ n
   pub stricts : p.strict ≡ strict_before first_edition xs (length xs)
-  pub written : p.written ≡ how_many is_write xs
-  pub write_room : length p.writes ≡ 512
-  pub writes : (k : ℕ) → is_at is_write xs k ≡ true → write_at p.writes (up_to is_write xs k) ≡ written_at xs k
+  pub written : length p.writes.items ≡ how_many is_write xs
+  pub writes : (k : ℕ) → is_at is_write xs k ≡ true → write_at p.writes.items (up_to is_write xs k) ≡ written_at xs k
   pub low : (k : ℕ) → is_at is_write xs k ≡ true → at_place 0 address_of xs k < 64
   pub last_room : length p.last ≡ 64
   pub last : (a : ℕ) → a < 64 → slice_index p.last a ≡ last_to xs a (length xs)
-  pub notified : p.notified ≡ how_many is_notify xs
-  pub notify_room : length p.notifies ≡ 512
-  pub notifies : (k : ℕ) → is_at is_notify xs k ≡ true → notify_at p.notifies (up_to is_notify xs k) ≡ notified_at xs k
+  pub notified : length p.notifies.items ≡ how_many is_notify xs
+  pub notifies : (k : ℕ) → is_at is_notify xs k ≡ true → notify_at p.notifies.items (up_to is_notify xs k) ≡ notified_at xs k
   pub waits : p.waits ≡ how_many is_wait xs
 
 pub record PageKept (T : ℕ) (t : ℕ) (p : Page) (h : List Record) : Type 0 where

@@ -1,5 +1,5 @@
 -- What the functions of a page compute.
-use Rattle.std.specs.Prelude.{ℕ, ◌+◌, ◌-◌, ◌*◌, Bool, true, false, cond, not, ◌&&◌, ◌||◌, List, [], replicate, is_some, Some, None, Option, ◌==◌, nat_le, nat_lt, slice_index, slice_index_or, slice_set}
+use Rattle.std.specs.Prelude.{ℕ, ◌+◌, ◌-◌, ◌*◌, Bool, true, false, cond, not, ◌&&◌, ◌||◌, List, [], ◌∷◌, ◌++◌, length, replicate, is_some, Some, None, Option, ◌==◌, nat_le, nat_lt, slice_get, slice_index, slice_index_or, slice_set}
 use Rattle.record.specs.declared.kinds.Source.{Source}
 use Rattle.record.specs.declared.kinds.Source.TheVariants.{Initial, Write as WriteOf}
 use Rattle.record.specs.declared.kinds.Record.{Record}
@@ -25,7 +25,7 @@ abbrev pub view_at : List View → ℕ → View
 view_at vs u = slice_index_or vs u (record { passed = 0; covered = [] })
 
 abbrev pub page_at : List Page → ℕ → Page
-page_at ps t = slice_index_or ps t (record { count = 0; strict = 0; written = 0; writes = []; last = []; notified = 0; notifies = []; waits = 0; views = [] })
+page_at ps t = slice_index_or ps t (record { count = 0; strict = 0; writes = record { items = [] }; last = []; notifies = record { items = [] }; waits = 0; views = [] })
 
 -- Empty pages -------------------------------------------------------------------------------------------------------
 
@@ -33,7 +33,7 @@ abbrev pub empty_view : View
 empty_view = record { passed = 0; covered = replicate 64 0 }
 
 abbrev pub empty_page : Page
-empty_page = record { count = 0; strict = 0; written = 0; writes = replicate 512 (record { address = 0; value = 0; rank = 0 }); last = replicate 64 0; notified = 0; notifies = replicate 512 (record { label = 0; rank = 0 }); waits = 0; views = replicate 8 empty_view }
+empty_page = record { count = 0; strict = 0; writes = record { items = [] }; last = replicate 64 0; notifies = record { items = [] }; waits = 0; views = replicate 8 empty_view }
 
 abbrev pub empty_book : Book
 empty_book = record { pages = replicate 8 empty_page }
@@ -42,10 +42,10 @@ empty_book = record { pages = replicate 8 empty_page }
 
 -- the write numbered n from 1, the notify of phase j from 0
 abbrev pub write_of : Page → ℕ → Option Written
-write_of p n = cond (nat_lt 0 n && nat_le n p.written && nat_le n 512) (Some (write_at p.writes (n - 1))) None
+write_of p n = cond (nat_lt 0 n) (slice_get p.writes.items (n - 1)) None
 
 abbrev pub notify_of : Page → ℕ → Option Notified
-notify_of p j = cond (nat_lt j p.notified && nat_lt j 512) (Some (notify_at p.notifies j)) None
+notify_of p j = slice_get p.notifies.items j
 
 abbrev pub is_notify_missing : Page → ℕ → Bool
 is_notify_missing p j = not (is_some (notify_of p j))
@@ -58,11 +58,11 @@ abbrev pub is_other_labelled : Page → ℕ → ℕ → Bool
 is_other_labelled p j l = labelled_otherwise l (notify_of p j)
 
 abbrev pub is_written_to : Page → ℕ → Bool
-is_written_to p a = nat_lt a 64 && nat_lt 0 (slice_index p.last a)
+is_written_to p a = nat_lt 0 (slice_index p.last a)
 
 abbrev pub later_than : Page → ℕ → Option Written → Bool
 later_than p n None = false
-later_than p n (Some w) = nat_lt w.address 64 && nat_lt n (slice_index p.last w.address)
+later_than p n (Some w) = nat_lt n (slice_index p.last w.address)
 
 abbrev pub is_later_written : Page → ℕ → Bool
 is_later_written p n = later_than p n (write_of p n)
@@ -74,20 +74,20 @@ abbrev pub strict_of : Record → ℕ
 strict_of x = bit (is_strict first_edition x)
 
 abbrev pub is_full : Page → Bool
-is_full p = nat_le 512 p.count || nat_lt 512 p.strict || nat_le 512 p.written || nat_le 512 p.notified || nat_le 512 p.waits
+is_full p = nat_le 512 p.count || nat_lt 512 p.strict || nat_le 512 (length p.writes.items) || nat_le 512 (length p.notifies.items) || nat_le 512 p.waits
 
 abbrev pub adding_write : Page → ℕ → ℕ → ℕ → Page
-adding_write p a v m = record { count = p.count; strict = p.strict; written = p.written + 1; writes = slice_set p.writes p.written (record { address = a; value = v; rank = m }); last = cond (nat_lt a 64) (slice_set p.last a (p.written + 1)) p.last; notified = p.notified; notifies = p.notifies; waits = p.waits; views = p.views }
+adding_write p a v m = record p { writes = record { items = p.writes.items ++ record { address = a; value = v; rank = m } ∷ [] }; last = slice_set p.last a (length p.writes.items + 1) }
 
 abbrev pub adding_notify : Page → ℕ → ℕ → Page
-adding_notify p l m = record { count = p.count; strict = p.strict; written = p.written; writes = p.writes; last = p.last; notified = p.notified + 1; notifies = slice_set p.notifies p.notified (record { label = l; rank = m }); waits = p.waits; views = p.views }
+adding_notify p l m = record p { notifies = record { items = p.notifies.items ++ record { label = l; rank = m } ∷ [] } }
 
 abbrev pub adding_wait : Page → Page
-adding_wait p = record { count = p.count; strict = p.strict; written = p.written; writes = p.writes; last = p.last; notified = p.notified; notifies = p.notifies; waits = p.waits + 1; views = p.views }
+adding_wait p = record p { waits = p.waits + 1 }
 
 -- one more record, with s strict events
 abbrev pub tallied : Page → ℕ → Page
-tallied p s = record { count = p.count + 1; strict = p.strict + s; written = p.written; writes = p.writes; last = p.last; notified = p.notified; notifies = p.notifies; waits = p.waits; views = p.views }
+tallied p s = record p { count = p.count + 1; strict = p.strict + s }
 
 -- one more than the rank of the thread's next record
 abbrev pub next_rank : Page → Record → ℕ

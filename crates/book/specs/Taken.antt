@@ -11,18 +11,22 @@ use Rattle.book.specs.Pages.{view_at, page_at, written_up, fitting}
 use Rattle.book.specs.Views.{read_observing, wait_observing}
 
 abbrev pub with_view : Page → ℕ → View → Page
-with_view p u v = record { count = p.count; strict = p.strict; written = p.written; writes = p.writes; last = p.last; notified = p.notified; notifies = p.notifies; waits = p.waits; views = slice_set p.views u v }
+with_view p u v = record p { views = slice_set p.views u v }
 
 -- t has another view of u
 abbrev pub viewed : List Page → ℕ → ℕ → View → List Page
 viewed ps t u v = slice_set ps t (with_view (page_at ps t) u v)
 
+-- t's view of u becomes what f makes of it and u's page
+abbrev pub looked : List Page → ℕ → ℕ → (View → Page → View) → List Page
+looked ps t u f = viewed ps t u (f (view_at (page_at ps t).views u) (page_at ps u))
+
 -- t observes u's write numbered n; u's notify of phase j
 abbrev pub read_observed : List Page → ℕ → ℕ → ℕ → List Page
-read_observed ps t u n = viewed ps t u (read_observing (view_at (page_at ps t).views u) (page_at ps u) n)
+read_observed ps t u n = looked ps t u (λ v q. read_observing v q n)
 
 abbrev pub wait_observed : List Page → ℕ → ℕ → ℕ → List Page
-wait_observed ps t u j = viewed ps t u (wait_observing (view_at (page_at ps t).views u) (page_at ps u) j)
+wait_observed ps t u j = looked ps t u (λ v q. wait_observing v q j)
 
 -- t observes the notify of phase j of each other thread below n
 abbrev pub waiting : ℕ → List Page → ℕ → ℕ → List Page

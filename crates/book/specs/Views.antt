@@ -1,5 +1,5 @@
 -- What the functions of a view compute.
-use Rattle.std.specs.Prelude.{ℕ, ◌+◌, ◌-◌, max, Bool, false, cond, ◌&&◌, List, [], ◌∷◌, take, drop, Some, None, Option, nat_le, nat_lt, slice_index, slice_set}
+use Rattle.std.specs.Prelude.{ℕ, ◌+◌, max, Bool, false, cond, List, [], ◌∷◌, drop, Some, None, Option, nat_lt, slice_index, slice_set}
 use Rattle.book.specs.declared.pages.Written.{Written}
 use Rattle.book.specs.declared.pages.Notified.{Notified}
 use Rattle.book.specs.declared.pages.Page.{Page}
@@ -8,10 +8,10 @@ use Rattle.book.specs.Pages.{write_of, notify_of}
 
 -- the number m is put against what the table has for address a, and the larger one stays
 abbrev pub raised : List ℕ → ℕ → ℕ → List ℕ
-raised table a m = cond (nat_lt a 64) (slice_set table a (max (slice_index table a) m)) table
+raised table a m = slice_set table a (max (slice_index table a) m)
 
 abbrev pub covering : View → ℕ → ℕ → View
-covering v a m = record { passed = v.passed; covered = raised v.covered a m }
+covering v a m = record v { covered = raised v.covered a m }
 
 -- the writes at the front are passed over, as long as their ranks are below m
 abbrev pub passing : ℕ → List Written → View → View
@@ -20,7 +20,7 @@ passing m (w ∷ ws) v = cond (nat_lt w.rank m) (passing m ws (record { passed =
 
 -- an event of rank m on the page q is observed
 abbrev pub observing : View → Page → ℕ → View
-observing v q m = cond (nat_le v.passed q.written && nat_le q.written 512) (passing m (take (q.written - v.passed) (drop v.passed q.writes)) v) v
+observing v q m = passing m (drop v.passed q.writes.items) v
 
 abbrev pub observing_write : View → Page → Option Written → View
 observing_write v q None = v
@@ -38,10 +38,10 @@ wait_observing v q j = observing_notify v q (notify_of q j)
 
 abbrev pub overwritten_in : View → Option Written → Bool
 overwritten_in v None = false
-overwritten_in v (Some w) = nat_lt w.address 64 && nat_lt w.rank (slice_index v.covered w.address)
+overwritten_in v (Some w) = nat_lt w.rank (slice_index v.covered w.address)
 
 abbrev pub is_overwritten_for : View → Page → ℕ → Bool
 is_overwritten_for v q n = overwritten_in v (write_of q n)
 
-abbrev pub is_initial_gone_for : View → ℕ → Bool
-is_initial_gone_for v a = nat_lt a 64 && nat_lt 0 (slice_index v.covered a)
+abbrev pub is_initial_gone_for : View → Page → ℕ → Bool
+is_initial_gone_for v q a = nat_lt 0 (slice_index v.covered a)

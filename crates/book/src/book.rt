@@ -2,11 +2,14 @@
 
 ghost use Rattle.std.specs.Prelude.{◌≡◌, ℕ, ◌<◌, ◌≤◌, List, [], if◌then◌else◌, nat_lt};
 ghost use Rattle.model.specs.Events.{count_of};
-ghost use Rattle.book.specs.Pages.{page_at, empty_book};
+ghost use Rattle.book.specs.Pages.{view_at, page_at, empty_book};
 ghost use Rattle.book.specs.Kept.{Kept};
 
 use crate::pages::Page;
+use crate::threads::Thread;
+use crate::views::View;
 use record::Record;
+use std::array;
 
 #[derive(Drop)]
 pub struct Book {
@@ -20,16 +23,7 @@ impl Book {
         ensures keeps { (threads : ℕ) → threads ≤ 8 → Kept threads result [] }
     {
         Book {
-            pages: [
-                Page::empty(),
-                Page::empty(),
-                Page::empty(),
-                Page::empty(),
-                Page::empty(),
-                Page::empty(),
-                Page::empty(),
-                Page::empty(),
-            ],
+            pages: array::from_fn(|_| Page::empty()),
         }
     }
 
@@ -38,10 +32,22 @@ impl Book {
         ensures exact { result ≡ (if nat_lt thread 8 then (page_at self.now.pages thread).count else 0) }
         ensures keeps { (threads : ℕ) (history : List Record) → Kept threads self.now history → thread < threads → result ≡ count_of thread history }
     {
-        if thread < 8 {
-            self.pages[thread as usize].count as usize
-        } else {
-            0
-        }
+        self.pages
+            .get(thread as usize)
+            .map_or(0, |page| page.count as usize)
+    }
+
+    /// The page of this thread.
+    pub(crate) fn page(&self, thread: Thread) -> &Page
+        ensures { result.now ≡ page_at self.now.pages thread.index }
+    {
+        &self.pages[thread.index as usize]
+    }
+
+    /// What the reader has observed of the other thread.
+    pub(crate) fn view(&self, reader: Thread, other: Thread) -> &View
+        ensures { result.now ≡ view_at (page_at self.now.pages reader.index).views other.index }
+    {
+        &self.page(reader).views[other.index as usize]
     }
 }

@@ -1,9 +1,43 @@
 //! Whether a record can stand in the book.
 
-ghost use Rattle.std.specs.Prelude.{◌≡◌};
+ghost use Rattle.std.specs.Prelude.{◌≡◌, ◌&&◌, true, is_some, IfSome, nat_le};
+ghost use Rattle.record.specs.WellMade.{thread_of};
 ghost use Rattle.book.specs.Pages.{fitting, source_fitting};
 
+use crate::threads::{Thread, Threads};
 use record::{Record, Source};
+
+/// A record that can stand in a book of so many threads.
+#[derive(Clone, Copy)]
+pub(crate) struct Entry<'a> {
+    pub(crate) threads: Threads,
+    pub(crate) record: &'a Record,
+    ghost fits: { fitting threads.count «record».now ≡ true },
+}
+
+impl<'a> Entry<'a> {
+    /// The record, if it can stand in a book of so many threads.
+    pub(crate) fn new(threads: u8, record: &'a Record) -> Option<Entry<'a>>
+        ensures variant { is_some result ≡ (nat_le threads 8 && fitting threads «record».now) }
+        ensures value { IfSome result (λ entry. (entry.threads.count ≡ threads) × (entry.«record».now ≡ «record».now)) }
+    {
+        let threads = Threads::new(threads)?;
+        if fits(threads.count, record) {
+            Some(Entry { threads, record })
+        } else {
+            None
+        }
+    }
+
+    /// The thread of the record.
+    pub(crate) fn thread(self) -> Thread
+        ensures { result.index ≡ thread_of self.entry.«record».now }
+    {
+        Thread {
+            index: self.record.thread(),
+        }
+    }
+}
 
 /// The record's threads are below their number, and its address is below 64.
 pub(crate) fn fits(threads: u8, record: &Record) -> bool

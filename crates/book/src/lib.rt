@@ -5,7 +5,9 @@ mod book;
 mod fitting;
 mod pages;
 mod questions;
+mod tables;
 mod taking;
+mod threads;
 mod verdicts;
 mod views;
 

@@ -1,16 +1,18 @@
 //! The page of one thread.
 
 ghost use Rattle.std.specs.Prelude.{◌≡◌, ◌<◌, ◌≤◌};
-ghost use Rattle.model.specs.Events.{a_write, a_read};
-ghost use Rattle.model.specs.Laws.{strict_kind};
-ghost use Rattle.model.specs.Rank.{bit};
-ghost use Rattle.book.specs.Pages.{empty_page, strict_of, write_of, notify_of, is_later_written, is_written_to, is_notify_missing, is_other_labelled, is_full, adding_write, adding_notify, tallied, written_up};
+ghost use Rattle.model.specs.Events.{is_strict};
+ghost use Rattle.model.specs.Laws.{first_edition};
+ghost use Rattle.arrayvec.specs.ArrayVec.{array_vec_len};
+ghost use Rattle.book.specs.Pages.{empty_page, write_of, notify_of, is_later_written, is_written_to, is_notify_missing, is_other_labelled, is_full, adding_write, written_up};
 
+use crate::tables::{number_at, set_number};
 use crate::views::View;
+use arrayvec::ArrayVec;
 use record::{Label, Mode, Record, Value};
 
 /// A write, with one more than its rank.
-#[derive(Clone, Copy)]
+#[derive(Clone, Copy, Default)]
 pub struct Written {
     pub address: u16,
     pub value: Value,
@@ -18,7 +20,7 @@ pub struct Written {
 }
 
 /// A notify, with one more than its rank.
-#[derive(Clone, Copy)]
+#[derive(Clone, Copy, Default)]
 pub struct Notified {
     pub label: Label,
     pub rank: u16,
@@ -31,14 +33,12 @@ pub struct Page {
     pub count: u16,
     /// how many of them are strict events
     pub strict: u16,
-    /// how many are writes, and the writes themselves
-    pub written: u16,
-    pub writes: [Written; 512],
+    /// its writes
+    pub writes: ArrayVec<Written, 512>,
     /// for each address the number of the thread's last write there, counted from 1, and 0 where there is none
     pub last: [u16; 64],
-    /// how many are notifies, and the notifies themselves
-    pub notified: u16,
-    pub notifies: [Notified; 512],
+    /// its notifies
+    pub notifies: ArrayVec<Notified, 512>,
     /// how many are waits
     pub waits: u16,
     /// what the thread has observed of each other one
@@ -53,15 +53,9 @@ impl Page {
         Page {
             count: 0,
             strict: 0,
-            written: 0,
-            writes: [Written {
-                address: 0,
-                value: 0,
-                rank: 0,
-            }; 512],
+            writes: ArrayVec::new(),
             last: [0; 64],
-            notified: 0,
-            notifies: [Notified { label: 0, rank: 0 }; 512],
+            notifies: ArrayVec::new(),
             waits: 0,
             views: [View::empty(); 8],
         }
@@ -71,22 +65,15 @@ impl Page {
     pub fn write(&self, number: u16) -> Option<Written>
         ensures { result ≡ write_of self.now number }
     {
-        if 0 < number && number <= self.written && number <= 512 {
-            Some(self.writes[(number - 1) as usize])
-        } else {
-            None
-        }
+        let place = number.checked_sub(1)?;
+        self.writes.get(place as usize).copied()
     }
 
     /// The notify of this phase, counted from 0.
     pub fn notify(&self, phase: u16) -> Option<Notified>
         ensures { result ≡ notify_of self.now phase }
     {
-        if phase < self.notified && phase < 512 {
-            Some(self.notifies[phase as usize])
-        } else {
-            None
-        }
+        self.notifies.get(phase as usize).copied()
     }
 
     /// There is no notify of this phase.
@@ -100,27 +87,23 @@ impl Page {
     pub fn labels_otherwise(&self, phase: u16, label: Label) -> bool
         ensures { result ≡ is_other_labelled self.now phase label }
     {
-        match self.notify(phase) {
-            Some(notify) => notify.label != label,
-            None => false,
-        }
+        self.notify(phase)
+            .is_some_and(|notify| notify.label != label)
     }
 
     /// The thread has written to this address.
     pub fn has_written(&self, address: u16) -> bool
         ensures { result ≡ is_written_to self.now address }
     {
-        address < 64 && self.last[address as usize] > 0
+        number_at(&self.last, address) > 0
     }
 
     /// The thread has written to the address of its write with this number once more, later.
     pub fn has_later_write(&self, number: u16) -> bool
         ensures { result ≡ is_later_written self.now number }
     {
-        match self.write(number) {
-            Some(write) => write.address < 64 && number < self.last[write.address as usize],
-            None => false,
-        }
+        self.write(number)
+            .is_some_and(|write| number < number_at(&self.last, write.address))
     }
 
     /// Writes up a record of the thread, if there is room.
@@ -130,15 +113,19 @@ impl Page {
         if self.is_full() {
             return;
         }
-        let strict = strict_events(record);
+        let strict = u16::from(is_strict(record));
         let rank = 2 * self.strict + strict + 1;
         match record {
             Record::Write(w) => self.add_write(w.address, w.value, rank),
-            Record::Notify(n) => self.add_notify(n.label, rank),
+            Record::Notify(n) => self.notifies.push(Notified {
+                label: n.label,
+                rank,
+            }),
             Record::Wait(_) => self.waits += 1,
             Record::Read(_) | Record::Fence(_) => {}
         }
-        self.tally(strict);
+        self.count += 1;
+        self.strict += strict;
     }
 
     fn is_full(&self) -> bool
@@ -146,63 +133,32 @@ impl Page {
     {
         self.count >= 512
             || self.strict > 512
-            || self.written >= 512
-            || self.notified >= 512
+            || self.writes.is_full()
+            || self.notifies.is_full()
             || self.waits >= 512
     }
 
     fn add_write(&mut self, address: u16, value: Value, rank: u16)
-        requires { self.old.written < 512 }
+        requires { array_vec_len self.old.writes < 512 }
         ensures { self.new ≡ adding_write self.old address value rank }
     {
-        self.writes[self.written as usize] = Written {
+        self.writes.push(Written {
             address,
             value,
             rank,
-        };
-        self.written += 1;
-        if address < 64 {
-            self.last[address as usize] = self.written;
-        }
-    }
-
-    fn add_notify(&mut self, label: Label, rank: u16)
-        requires { self.old.notified < 512 }
-        ensures { self.new ≡ adding_notify self.old label rank }
-    {
-        self.notifies[self.notified as usize] = Notified { label, rank };
-        self.notified += 1;
-    }
-
-    /// Counts one more record, and so many more strict events.
-    fn tally(&mut self, strict: u16)
-        requires { (self.old.count < 512) × ((self.old.strict ≤ 512) × (strict ≤ 1)) }
-        ensures { self.new ≡ tallied self.old strict }
-    {
-        self.count += 1;
-        self.strict += strict;
+        });
+        set_number(&mut self.last, address, self.writes.len() as u16);
     }
 }
 
-/// How many strict events the record is, 1 or 0: the one place that looks at which records are.
-fn strict_events(record: &Record) -> u16
-    ensures { result ≡ strict_of «record».now }
+/// The record is a strict event: the one place that looks at which records are.
+fn is_strict(record: &Record) -> bool
+    ensures { result ≡ is_strict first_edition «record».now }
 {
     match record {
-        Record::Write(w) => strict_access(w.mode),
-        Record::Read(r) => strict_access(r.mode),
-        Record::Fence(_) | Record::Notify(_) => 1,
-        Record::Wait(_) => 0,
-    }
-}
-
-/// The same of a write or read with this mode.
-fn strict_access(mode: Mode) -> u16
-    ensures of_write { result ≡ bit (strict_kind (a_write mode)) }
-    ensures of_read { result ≡ bit (strict_kind (a_read mode)) }
-{
-    match mode {
-        Mode::Relaxed => 0,
-        Mode::Strict => 1,
+        Record::Write(w) => w.mode == Mode::Strict,
+        Record::Read(r) => r.mode == Mode::Strict,
+        Record::Fence(_) | Record::Notify(_) => true,
+        Record::Wait(_) => false,
     }
 }

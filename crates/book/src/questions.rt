@@ -6,6 +6,7 @@ ghost use Rattle.book.specs.Kept.{Kept};
 ghost use Rattle.book.specs.MayRead.{may_read};
 
 use crate::book::Book;
+use crate::threads::Threads;
 use record::Record;
 
 impl Book {
@@ -14,15 +15,10 @@ impl Book {
         ensures exact { result ≡ asked threads self.now.pages reader writer number }
         ensures keeps { (history : List Record) → Kept threads self.now history → result ≡ may_read threads history reader writer number }
     {
-        if threads > 8 || reader >= threads || writer >= threads {
-            return None;
-        }
-        match self.pages[writer as usize].write(number) {
-            Some(_) => Some(
-                self.stale_reason(reader as usize, writer as usize, number)
-                    .is_none(),
-            ),
-            None => None,
-        }
+        let threads = Threads::new(threads)?;
+        let reader = threads.thread(reader)?;
+        let writer = threads.thread(writer)?;
+        self.page(writer).write(number)?;
+        Some(self.stale_reason(reader, writer, number).is_none())
     }
 }

@@ -1,15 +1,18 @@
 //! Taking a lawful record into the book.
 
-ghost use Rattle.std.specs.Prelude.{◌≡◌, ℕ, ◌<◌, ◌≤◌, true, List, ◌∷◌, None, ◌≢◌};
+ghost use Rattle.std.specs.Prelude.{◌≡◌, ℕ, List, ◌∷◌, None, ◌≢◌};
 ghost use Rattle.record.specs.WellMade.{thread_of};
 ghost use Rattle.model.specs.Laws.{by_axioms};
 ghost use Rattle.model.specs.Lawful.{verdict as verdict_of};
-ghost use Rattle.book.specs.Pages.{page_at, fitting};
-ghost use Rattle.book.specs.Taken.{read_observed, wait_observed, waiting, observed_by, entered, taken};
+ghost use Rattle.book.specs.Pages.{view_at, page_at};
+ghost use Rattle.book.specs.Taken.{viewed, waiting, observed_by, entered, taken};
 ghost use Rattle.book.specs.Kept.{Kept, WellMadeIn};
 
 use crate::book::Book;
-use crate::fitting::fits;
+use crate::fitting::Entry;
+use crate::pages::Page;
+use crate::threads::{Thread, Threads};
+use crate::views::View;
 use record::{Record, Source};
 
 impl Book {
@@ -19,68 +22,69 @@ impl Book {
         ensures others { (u : ℕ) → (u ≢ thread_of «record».now) → page_at self.new.pages u ≡ page_at self.old.pages u }
         ensures keeps { (history : List Record) → Kept threads self.old history → WellMadeIn threads «record».now → verdict_of by_axioms threads history «record».now ≡ None → Kept threads self.new («record».now ∷ history) }
     {
-        if threads <= 8 && fits(threads, record) {
-            self.observe(threads, record);
-            self.write_up(record);
+        if let Some(entry) = Entry::new(threads, record) {
+            self.observe(entry);
+            self.write_up(entry);
         }
     }
 
     /// The page of the record's thread is written up in its place.
-    fn write_up(&mut self, record: &Record)
-        requires { thread_of «record».now < 8 }
-        ensures { self.new.pages ≡ entered self.old.pages (thread_of «record».now) «record».now }
+    fn write_up(&mut self, next: Entry<'_>)
+        ensures { self.new.pages ≡ entered self.old.pages (thread_of next.entry.«record».now) next.entry.«record».now }
     {
-        self.pages[record.thread() as usize].write_up(record);
+        self.pages[next.thread().index as usize].write_up(next.record);
     }
 
     /// The record's thread observes what the record names.
-    fn observe(&mut self, threads: u8, record: &Record)
-        requires { (threads ≤ 8) × (fitting threads «record».now ≡ true) }
-        ensures { self.new.pages ≡ observed_by threads self.old.pages «record».now }
+    fn observe(&mut self, next: Entry<'_>)
+        ensures { self.new.pages ≡ observed_by next.entry.threads.count self.old.pages next.entry.«record».now }
     {
-        match record {
+        match next.record {
             Record::Read(read) => if let Source::Write { thread, number } = read.source {
                 if thread != read.thread {
-                    self.observe_read(read.thread as usize, thread as usize, number);
+                    let writer = Thread { index: thread };
+                    self.look(
+                        next.thread(),
+                        writer,
+                        |view, page| view.observe_read(page, number),
+                    );
                 }
             },
-            Record::Wait(wait) => {
-                let waiter = wait.thread as usize;
-                self.observe_waits(threads as usize, waiter, self.pages[waiter].waits);
-            }
+            Record::Wait(_) => self.observe_waits(next.threads, next.thread()),
             _ => {}
         }
     }
 
-    /// The reader observes the writer's write with this number.
-    fn observe_read(&mut self, reader: usize, writer: usize, number: u16)
-        requires { (reader < 8) × (writer < 8) }
-        ensures { self.new.pages ≡ read_observed self.old.pages reader writer number }
+    /// The waiter observes the notify of its next phase of each other thread.
+    fn observe_waits(&mut self, threads: Threads, waiter: Thread)
+        ensures { self.new.pages ≡ waiting threads.count self.old.pages waiter.index (page_at self.old.pages waiter.index).waits }
     {
-        let mut view = self.pages[reader].views[writer];
-        view.observe_read(&self.pages[writer], number);
-        self.pages[reader].views[writer] = view;
-    }
-
-    /// The waiter observes the notify of this phase of each other thread.
-    fn observe_waits(&mut self, threads: usize, waiter: usize, phase: u16)
-        requires { (threads ≤ 8) × (waiter < 8) }
-        ensures { self.new.pages ≡ waiting threads self.old.pages waiter phase }
-    {
-        for u in 0..threads {
-            if u != waiter {
-                self.observe_wait(waiter, u, phase);
+        let phase = self.page(waiter).waits;
+        for u in 0..threads.count {
+            if u != waiter.index {
+                self.look(
+                    waiter,
+                    Thread { index: u },
+                    |view, page| view.observe_wait(page, phase),
+                );
             }
         }
     }
 
-    /// The waiter observes the notify of this phase of the other thread.
-    fn observe_wait(&mut self, waiter: usize, other: usize, phase: u16)
-        requires { (waiter < 8) × (other < 8) }
-        ensures { self.new.pages ≡ wait_observed self.old.pages waiter other phase }
+    /// What the reader has observed of the other thread becomes what this makes of it and the other's page.
+    fn look<F: FnOnce(&mut View, &Page)>(&mut self, reader: Thread, other: Thread, observe: F)
+        requires { F.IsAlwaysCallable observe }
+        ensures { (v : _) × (q : _) × (w : _) × F.post observe v q tt w × (v.now ≡ view_at (page_at self.old.pages reader.index).views other.index) × (q.now ≡ page_at self.old.pages other.index) × (self.new.pages ≡ viewed self.old.pages reader.index other.index w.now) }
     {
-        let mut view = self.pages[waiter].views[other];
-        view.observe_wait(&self.pages[other], phase);
-        self.pages[waiter].views[other] = view;
+        let mut view = *self.view(reader, other);
+        observe(&mut view, self.page(other));
+        self.set_view(reader, other, view);
+    }
+
+    /// The reader has this view of the other thread from now on.
+    fn set_view(&mut self, reader: Thread, other: Thread, view: View)
+        ensures { self.new.pages ≡ viewed self.old.pages reader.index other.index view }
+    {
+        self.pages[reader.index as usize].views[other.index as usize] = view;
     }
 }

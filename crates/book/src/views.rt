@@ -1,10 +1,11 @@
 //! What a reader has observed of one other thread. Nothing outside this file looks at its numbers.
 
-ghost use Rattle.std.specs.Prelude.{◌≡◌, ◌+◌, ◌≤◌, length};
+ghost use Rattle.std.specs.Prelude.{◌≡◌, ◌+◌, ◌≤◌, length, Some};
 ghost use Rattle.book.specs.Pages.{empty_view};
-ghost use Rattle.book.specs.Views.{covering, passing, observing, read_observing, wait_observing, is_overwritten_for, is_initial_gone_for};
+ghost use Rattle.book.specs.Views.{covering, passing, observing, read_observing, wait_observing, overwritten_in, is_overwritten_for, is_initial_gone_for};
 
 use crate::pages::{Page, Written};
+use crate::tables::{number_at, set_number};
 
 /// The writes of the other thread that are covered for the reader, by ranks.
 #[derive(Clone, Copy)]
@@ -49,28 +50,29 @@ impl View {
     pub fn is_overwritten(&self, other: &Page, number: u16) -> bool
         ensures { result ≡ is_overwritten_for self.now other.now number }
     {
-        match other.write(number) {
-            Some(write) => write.address < 64 && write.rank < self.covered[write.address as usize],
-            None => false,
-        }
+        other.write(number).is_some_and(|write| self.covers(write))
     }
 
     /// Some write of the other's to this address is covered for the reader.
-    pub fn is_initial_gone(&self, address: u16) -> bool
-        ensures { result ≡ is_initial_gone_for self.now address }
+    pub fn is_initial_gone(&self, _other: &Page, address: u16) -> bool
+        ensures { result ≡ is_initial_gone_for self.now _other.now address }
     {
-        address < 64 && self.covered[address as usize] > 0
+        number_at(&self.covered, address) > 0
+    }
+
+    /// A covered write to the address of this one has a larger rank.
+    fn covers(&self, write: Written) -> bool
+        ensures { result ≡ overwritten_in self.now (Some write) }
+    {
+        write.rank < number_at(&self.covered, write.address)
     }
 
     /// An event of this rank is observed: every write of lower rank is covered from now on.
     fn observe(&mut self, other: &Page, rank: u16)
         ensures { self.new ≡ observing self.old other.now rank }
     {
-        if self.passed <= other.written && other.written <= 512 {
-            self.pass(
-                &other.writes[self.passed as usize..other.written as usize],
-                rank,
-            );
+        if let Some(ahead) = other.writes.as_slice().get(self.passed as usize..) {
+            self.pass(ahead, rank);
         }
     }
 
@@ -92,9 +94,7 @@ impl View {
     fn cover(&mut self, address: u16, rank: u16)
         ensures { self.new ≡ covering self.old address rank }
     {
-        if address < 64 {
-            let a = address as usize;
-            self.covered[a] = self.covered[a].max(rank);
-        }
+        let top = number_at(&self.covered, address).max(rank);
+        set_number(&mut self.covered, address, top);
     }
 }

@@ -3,7 +3,7 @@ use Rattle.book.specs.Said.{said}
 use Rattle.book.proofs.Saying.{fits_in, said-is}
 use Rattle.book.proofs.book.Book.verdict.Goals as goal
 
-pub returns-else-self-thread-ge512 : goal.returns-else-self-thread-ge512
-returns-else-self-thread-ge512 c =
+pub returns-clause-keeps : goal.returns-clause-keeps
+returns-clause-keeps c h k m =
     let e : c.kind_reason.result ≡ said c.args.threads c.args.self.now.pages c.args.record.now = search rules in
-    record { exact = e; keeps = λ h k m. e ∙ said-is c.args.threads c.args.self.now h k c.args.record.now (fits_in c.args.threads c.args.record.now m) }
+    e ∙ said-is c.args.threads c.args.self.now h k c.args.record.now (fits_in c.args.threads c.args.record.now m)
