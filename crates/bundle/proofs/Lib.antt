@@ -1,3 +1,5 @@
+pub mod FromFn
+pub mod Front
 pub mod Rows
 pub mod Passed
 pub mod Tallied

@@ -1,7 +1,7 @@
 -- What is left of a log, and one step of the logs together.
 use Rattle.std.proofs.Common.{◌≡◌, ℕ, suc, ◌+◌, ◌-◌, ◌/◌, ◌<◌, ◌≤◌, min, List, [], ◌∷◌, map, length, get_or, take, drop, set, Some, None, Ok, Err, Option, Result, sym, refl, ap, ◌∙◌, subst, arith}
 use Rattle.std.proofs.lemmas.List.FromFn.{fill_by_all}
-use Rattle.std.proofs.lemmas.List.{drop-drop, drop_more, drop_all, get_or-map, get_or_past, length-map, map-set}
+use Rattle.std.proofs.lemmas.List.{drop-drop, drop_more, map-set}
 use Rattle.record.specs.declared.kinds.Counts.{Counts}
 use Rattle.record.specs.declared.kinds.Record.{Record}
 use Rattle.record.specs.declared.causes.Cause.{Cause}
@@ -44,29 +44,11 @@ pub all-unread : (rows : List Row) (logs : List Log) → length rows ≡ 8 → l
 all-unread rows logs l n h =
     fill_by_all (λ k. log_for (row_at rows k)) logs 8 (record { at = 0; left = 0 }) n h ∙ ap (map log_for) (sym (fill_by_all (λ k. row_at rows k) rows 8 (record { offset = 0; count = 0 }) l (λ k b. refl)))
 
-pub next-said : (bs : List ℕ) (logs : List Log) (t : ℕ) (r : Option (List ℕ)) → t < 8 → length logs ≡ 8 → First bs (log_at logs t) r → FirstIn bs logs t r
-next-said bs logs t None h l f = get_or-map (slots_left bs) logs t (record { at = 0; left = 0 }) [] (omega arith) ∙ f
-next-said bs logs t (Some slot) h l f = (h, f.0, get_or-map (slots_left bs) logs t (record { at = 0; left = 0 }) [] (omega arith) ∙ f.1)
-
-pub next_past : (bs : List ℕ) (logs : List Log) (t : ℕ) → 8 ≤ t → length logs ≡ 8 → get_or (map (slots_left bs) logs) t [] ≡ []
-next_past bs logs t h l = let n = length-map logs (slots_left bs) in get_or_past (map (slots_left bs) logs) t [] (omega arith)
-
 -- One record ----------------------------------------------------------------------------------------------------------
-
-ended : (c : Counts) (at : ℕ) (rs : List (Result Record Cause)) → rs ≡ [] → Asked (delivering c at rs) (Ok None) (delivering c at rs)
-ended c at rs e = subst (λ l. Asked (delivering c at l) (Ok None) (delivering c at l)) (sym e) (refl, refl, refl)
-
-pub peeked-end : (c : Counts) (bs : List ℕ) (logs : List Log) (ts : List ℕ) (at : ℕ) → length ts ≤ at → Peeked c bs logs ts at None
-peeked-end c bs logs ts at h = ended (in_range c) at _ (ap (read_as_arriving (in_range c) (map (slots_left bs) logs)) (drop_all at ts h))
 
 -- the entry at hand decides
 entry : (c : Counts) (logs : List (List (List ℕ))) (ts : List ℕ) (at t : ℕ) → at < length ts → t ≡ get_or ts at 0 → read_as_arriving c logs (drop at ts) ≡ map (read_in_log c) (next_of t (get_or logs t []) (λ slots. arriving (set logs t slots) (drop (at + 1) ts)))
 entry c logs ts at t h e = ap (read_as_arriving c logs) (drop_more ts at 0 h) ∙ ap (λ u. read_as_arriving c logs (u ∷ drop (at + 1) ts)) (sym e)
-
-pub peeked-none : (c : Counts) (bs : List ℕ) (logs : List Log) (ts : List ℕ) (at t : ℕ) → at < length ts → t ≡ get_or ts at 0 → FirstIn bs logs t None → Peeked c bs logs ts at None
-peeked-none c bs logs ts at t h e n =
-    let all = map (slots_left bs) logs in
-    ended (in_range c) at _ (entry (in_range c) all ts at t h e ∙ ap (λ s. map (read_in_log (in_range c)) (next_of t s (λ slots. arriving (set all t slots) (drop (at + 1) ts)))) n)
 
 -- what waits is the record at hand and what the logs hold behind it
 behind : (c : Counts) (bs : List ℕ) (logs : List Log) (ts : List ℕ) (at t : ℕ) (slot : List ℕ) → at < length ts → t ≡ get_or ts at 0 → get_or (map (slots_left bs) logs) t [] ≡ slot ∷ slots_left bs (passed (log_at logs t))

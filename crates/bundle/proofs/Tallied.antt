@@ -1,12 +1,11 @@
 -- Counting how often each thread is named.
 use Rattle.std.proofs.Common.{◌≡◌, ℕ, ◌+◌, ◌<◌, ◌≤◌, Bool, true, false, cond, ◌&&◌, eqb, ltb, List, [], ◌∷◌, ◌++◌, map, length, get_or, take, drop, set, Some, None, sym, refl, ap, ◌∙◌, subst, ⊎_elim, arith}
 use Rattle.std.proofs.lemmas.List.FromFn.{length-map-range_with_len, get_or-map-range_with_len}
-use Rattle.std.proofs.lemmas.List.{length-set, get_or-set_same, get_or-set_other, same_lists, take_more, take_all, at_drop_more, at_drop_all, length-take, drop_more}
+use Rattle.std.proofs.lemmas.List.{length-set, get_or-set_same, get_or-set_other, same_lists, take_more, take_all, at_drop_more, at_drop_all, length-take}
 use Rattle.std.proofs.lemmas.List.Sums.{sum_by_push, count_by-le-length}
 use Rattle.std.proofs.lemmas.Bool.{cases_eq, eq-eqb, ne_eqb, lt-ltb, le-ltb}
-use Rattle.std.specs.List.{range_with_len}
+use Rattle.std.specs.List.{range_with_len, list_all, zip}
 use Rattle.bundle.specs.declared.layout.Row.{Row}
-use Rattle.bundle.specs.Contents.{row_at}
 use Rattle.bundle.specs.Arrivals.{names_only, times_named, tallied, rows_tally}
 
 -- One more entry ----------------------------------------------------------------------------------------------------
@@ -79,11 +78,8 @@ names-all threads ts named i h e n =
 
 -- Rows against the tally ----------------------------------------------------------------------------------------------
 
-rows_at : (rows : List Row) (ns : List ℕ) (t : ℕ) → t < length rows → t < length ns → rows_tally (drop t rows) (drop t ns) ≡ (eqb (row_at rows t).count (get_or ns t 0) && rows_tally (drop (t + 1) rows) (drop (t + 1) ns))
-rows_at rows ns t h l = λ i. rows_tally (drop_more rows t (record { offset = 0; count = 0 }) h i) (drop_more ns t 0 l i)
-
-pub rows_more : (rows : List Row) (ns : List ℕ) (t : ℕ) (b : Bool) → t < length rows → t < length ns → (row_at rows t).count ≡ get_or ns t 0 → rows_tally (drop t rows) (drop t ns) ≡ b → rows_tally (drop (t + 1) rows) (drop (t + 1) ns) ≡ b
-rows_more rows ns t b h l q e = sym (ap (λ k. k && rows_tally (drop (t + 1) rows) (drop (t + 1) ns)) (eq-eqb (row_at rows t).count (get_or ns t 0) q)) ∙ (sym (rows_at rows ns t h l) ∙ e)
-
-pub rows_other : (rows : List Row) (ns : List ℕ) (t : ℕ) (b : Bool) → t < length rows → t < length ns → ((row_at rows t).count ≡ get_or ns t 0 → ⊥) → rows_tally (drop t rows) (drop t ns) ≡ b → false ≡ b
-rows_other rows ns t b h l q e = sym (ap (λ k. k && rows_tally (drop (t + 1) rows) (drop (t + 1) ns)) (ne_eqb (row_at rows t).count (get_or ns t 0) q)) ∙ (sym (rows_at rows ns t h l) ∙ e)
+-- a test of each row beside its number is the tally's
+pub rows-zipped : (rows : List Row) (ns : List ℕ) → length ns ≡ length rows → list_all (λ (p : Row × ℕ). eqb p.0.count p.1) (zip rows ns) ≡ rows_tally rows ns
+rows-zipped [] ns e = refl
+rows-zipped (row ∷ rows) [] e = absurd (let z : ⊥ = omega arith in z)
+rows-zipped (row ∷ rows) (n ∷ ns) e = ap (λ b. eqb row.count n && b) (rows-zipped rows ns (omega arith))

@@ -1,5 +1,6 @@
 -- Which bytes are laid out as a bundle, whatever their arrival list says.
 use Rattle.std.specs.Prelude.{ℕ, ◌+◌, ◌*◌, ◌≤◌, Bool, false, cond, ◌&&◌, ◌||◌, List, [], ◌∷◌, length, Some, None, Ok, Err, Option, Result, ◌==◌, nat_lt, slice_index_or}
+use Rattle.std.specs.List.{list_any}
 use Rattle.record.specs.declared.kinds.Counts.{Counts}
 use Rattle.feed.specs.declared.refusals.Refusal.{Refusal}
 use Rattle.feed.specs.declared.refusals.Refusal.TheVariants.{ShortHeader, RecordCount, BrokenLayout}
@@ -12,8 +13,7 @@ use Rattle.bundle.specs.Layout.{header_of}
 
 -- some row has more than so many records
 abbrev pub any_above : ℕ → List Row → Bool
-any_above most [] = false
-any_above most (row ∷ rows) = nat_lt most row.count || any_above most rows
+any_above most rows = list_any (λ row. nat_lt most row.count) rows
 
 -- the row is that of a log at a place; where there is no such thread, it is zero
 abbrev pub row_stands : Bool → ℕ → Row → Bool

@@ -24,12 +24,9 @@ fn tally(arrivals: &[u8], threads: u8) -> Option<[usize; 8]>
 fn rows_tally(rows: &[Row; 8], named: &[usize; 8]) -> bool
     ensures { result ≡ rows_tally rows.now named.now }
 {
-    for (t, row) in rows.iter().enumerate() {
-        if row.count as usize != named[t] {
-            return false;
-        }
-    }
-    true
+    rows.iter()
+        .zip(named)
+        .all(|(row, n)| row.count as usize == *n)
 }
 
 /// Whether the list names only threads below `threads`, and each as often as its log has records.

@@ -1,7 +1,11 @@
 //! The header of a bundle, whatever it says.
 
-ghost use Rattle.std.specs.Prelude.{◌≡◌, ◌+◌, ◌*◌, ◌<◌, ◌≤◌, length};
-ghost use Rattle.bundle.specs.Layout.{two_at, four_at, row_of, rows_of, header_of};
+ghost use Rattle.std.specs.Prelude.{◌≡◌, ◌+◌, ◌<◌, ◌≤◌, length, if◌then◌else◌, Ok, Err, nat_lt};
+ghost use Rattle.feed.specs.declared.refusals.Refusal.TheVariants.{ShortHeader};
+ghost use Rattle.bundle.specs.Layout.{four_at, row_of, rows_of, header_of};
+
+use feed::Refusal;
+use std::array;
 
 /// How many bytes stand before the first log.
 pub(crate) const HEADER_BYTES: usize = 76;
@@ -25,25 +29,17 @@ pub(crate) struct BundleHeader {
     pub rows: [Row; 8],
 }
 
-/// The number of the two bytes at a place.
-fn two_at(bytes: &[u8], at: usize) -> u16
-    requires { at + 2 ≤ length bytes.now }
-    ensures { result ≡ two_at bytes.now at }
-{
-    u16::from_be_bytes([bytes[at], bytes[at + 1]])
-}
-
 /// The number of the four bytes at a place.
-fn four_at(bytes: &[u8], at: usize) -> u32
-    requires { at + 4 ≤ length bytes.now }
+fn four_at(bytes: &[u8; HEADER_BYTES], at: usize) -> u32
+    requires { at + 4 ≤ 76 }
     ensures { result ≡ four_at bytes.now at }
 {
     u32::from_be_bytes([bytes[at], bytes[at + 1], bytes[at + 2], bytes[at + 3]])
 }
 
 /// The row of a thread.
-fn read_row(bytes: &[u8], thread: usize) -> Row
-    requires { (76 ≤ length bytes.now) × (thread < 8) }
+fn read_row(bytes: &[u8; HEADER_BYTES], thread: usize) -> Row
+    requires { thread < 8 }
     ensures { result ≡ row_of bytes.now thread }
 {
     Row {
@@ -53,34 +49,34 @@ fn read_row(bytes: &[u8], thread: usize) -> Row
 }
 
 /// The rows of all eight threads.
-fn read_rows(bytes: &[u8]) -> [Row; 8]
-    requires { 76 ≤ length bytes.now }
+fn read_rows(bytes: &[u8; HEADER_BYTES]) -> [Row; 8]
     ensures { result ≡ rows_of bytes.now }
 {
-    [
-        read_row(bytes, 0),
-        read_row(bytes, 1),
-        read_row(bytes, 2),
-        read_row(bytes, 3),
-        read_row(bytes, 4),
-        read_row(bytes, 5),
-        read_row(bytes, 6),
-        read_row(bytes, 7),
-    ]
+    array::from_fn(|thread| read_row(bytes, thread))
+}
+
+impl From<[u8; HEADER_BYTES]> for BundleHeader {
+    ghost from_gives = { λ bytes header. header ≡ header_of bytes };
+
+    fn from(bytes: [u8; HEADER_BYTES]) -> BundleHeader {
+        BundleHeader {
+            threads: u16::from_be_bytes([bytes[0], bytes[1]]),
+            addresses: u16::from_be_bytes([bytes[2], bytes[3]]),
+            count: four_at(&bytes, 4),
+            arrivals: four_at(&bytes, 8),
+            rows: read_rows(&bytes),
+        }
+    }
 }
 
 impl BundleHeader {
-    /// The header at the front of the bytes.
-    pub(crate) fn read(bytes: &[u8]) -> BundleHeader
-        requires { 76 ≤ length bytes.now }
-        ensures { result ≡ header_of bytes.now }
+    /// The header at the front of the bytes, if they are as many as it has.
+    pub(crate) fn read(bytes: &[u8]) -> Result<BundleHeader, Refusal>
+        ensures { result ≡ (if nat_lt (length bytes.now) 76 then Err ShortHeader else Ok (header_of bytes.now)) }
     {
-        BundleHeader {
-            threads: two_at(bytes, 0),
-            addresses: two_at(bytes, 2),
-            count: four_at(bytes, 4),
-            arrivals: four_at(bytes, 8),
-            rows: read_rows(bytes),
-        }
+        let Some(front) = bytes.first_chunk() else {
+            return Err(Refusal::ShortHeader);
+        };
+        Ok(BundleHeader::from(*front))
     }
 }

@@ -16,26 +16,26 @@ pub(crate) struct Log {
     pub left: usize,
 }
 
-impl Log {
-    /// The log of a row, unread.
-    fn of(row: Row) -> Log
-        ensures { result ≡ log_for row }
-    {
+impl From<Row> for Log {
+    ghost from_gives = { λ row log. log ≡ log_for row };
+
+    fn from(row: Row) -> Log {
         Log {
             at: row.offset as usize,
             left: row.count as usize,
         }
     }
+}
 
+impl Log {
     /// The next twelve bytes of the log, if a record is left and the bytes reach so far.
     fn first(self, bytes: &[u8]) -> Option<[u8; 12]>
         ensures { First bytes.now self result }
     {
-        let at = self.at;
-        if self.left == 0 || at > bytes.len() {
+        if self.left == 0 {
             return None;
         }
-        first_twelve(&bytes[at..])
+        first_twelve(bytes.get(self.at..)?)
     }
 
     /// Goes on behind the next record.
@@ -52,19 +52,12 @@ impl Log {
 pub(crate) fn unread_logs(rows: &[Row; 8]) -> [Log; 8]
     ensures { result ≡ map log_for rows.now }
 {
-    let mut logs = [Log { at: 0, left: 0 }; 8];
-    for (t, row) in rows.iter().enumerate() {
-        logs[t] = Log::of(*row);
-    }
-    logs
+    rows.map(Log::from)
 }
 
 /// The next twelve bytes of a thread's log, if there is such a thread and its log has any left.
 pub(crate) fn next_of(logs: &[Log; 8], thread: usize, bytes: &[u8]) -> Option<[u8; 12]>
     ensures { FirstIn bytes.now logs.now thread result }
 {
-    if thread >= 8 {
-        return None;
-    }
-    logs[thread].first(bytes)
+    logs.get(thread)?.first(bytes)
 }

@@ -37,10 +37,7 @@ impl Bundle<'_> {
     fn peek(&self) -> Option<(usize, Result<Record, Cause>)>
         ensures { Peeked self.now.counts self.now.bytes.now self.now.logs self.now.arrivals.now self.now.at result }
     {
-        if self.at >= self.arrivals.len() {
-            return None;
-        }
-        let thread = self.arrivals[self.at];
+        let thread = *self.arrivals.get(self.at)?;
         let log = usize::from(thread);
         let slot = next_of(&self.logs, log, self.bytes)?;
         Some((log, self.read_in_log(&slot, thread)))

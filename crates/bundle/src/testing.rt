@@ -22,12 +22,7 @@ pub struct Contents {
 fn any_above(rows: &[Row; 8], most: u32) -> bool
     ensures { result ≡ any_above most rows.now }
 {
-    for row in rows {
-        if row.count > most {
-            return true;
-        }
-    }
-    false
+    rows.iter().any(|row| row.count > most)
 }
 
 impl Row {
@@ -73,9 +68,7 @@ impl BundleHeader {
             _ => Err(Refusal::BrokenLayout),
         }
     }
-}
 
-impl BundleHeader {
     /// What a bundle with this header and so many bytes holds, or the first refusal.
     fn contents(&self, length: usize) -> Result<Contents, Refusal>
         ensures answer { result ≡ contents_under self.now (header_tested «length» self.now) }
@@ -97,8 +90,6 @@ pub fn read_contents(bytes: &[u8]) -> Result<Contents, Refusal>
     ensures answer { result ≡ contents_of bytes.now }
     ensures within { IfOk result (λ k. Within (length bytes.now) k) }
 {
-    if bytes.len() < HEADER_BYTES {
-        return Err(Refusal::ShortHeader);
-    }
-    BundleHeader::read(bytes).contents(bytes.len())
+    let header = BundleHeader::read(bytes)?;
+    header.contents(bytes.len())
 }

@@ -1,5 +1,5 @@
 -- One record appended to the trace in a buffer.
-use Rattle.std.proofs.Common.{◌≡◌, ℕ, ◌+◌, ◌-◌, ◌≤◌, false, cond, ltb, List, [], ◌∷◌, ◌++◌, length, get_or, take, drop, Ok, Err, refl, ap, ◌∙◌, add_assoc, arith, take-add}
+use Rattle.std.proofs.Common.{◌≡◌, ℕ, ◌+◌, ◌-◌, ◌≤◌, false, cond, ltb, List, [], ◌++◌, length, take, drop, Ok, Err, refl, ap, ◌∙◌, add_assoc, arith, take-add}
 use borrow.Rule.Slice.PartMut.{put_mid}
 use Rattle.std.proofs.lemmas.List.{append-nil, append_assoc, length-drop, length-take, take_all, drop-drop, drop_all}
 use Rattle.std.proofs.lemmas.Bool.Decides.{nat_tests}
@@ -8,12 +8,7 @@ use Rattle.record.specs.declared.kinds.Record.{Record}
 use Rattle.record.specs.Layout.{bytes_of}
 use Rattle.record.specs.WellMade.{checked}
 use Rattle.trace_file.specs.declared.faults.Unwritten.TheVariants.{ShortSlot}
-use Rattle.trace_file.specs.Layout.{two_bytes, header_bytes}
 use Rattle.trace_file.specs.Writing.{slot_tested, writable, placed}
-
-pub header-spelled : (c : Counts) (t a : List ℕ) → t ≡ two_bytes c.threads → a ≡ two_bytes c.addresses
-    → get_or t 0 0 ∷ get_or t 1 0 ∷ get_or a 0 0 ∷ get_or a 1 0 ∷ 0 ∷ 0 ∷ 0 ∷ 0 ∷ 0 ∷ 0 ∷ 0 ∷ 16 ∷ 0 ∷ 0 ∷ 0 ∷ 16 ∷ [] ≡ header_bytes c 0
-header-spelled c t a p q = λ i. get_or (p i) 0 0 ∷ get_or (p i) 1 0 ∷ get_or (q i) 0 0 ∷ get_or (q i) 1 0 ∷ 0 ∷ 0 ∷ 0 ∷ 0 ∷ 0 ∷ 0 ∷ 0 ∷ 16 ∷ 0 ∷ 0 ∷ 0 ∷ 16 ∷ []
 
 -- what stands behind the header, as the code lends it
 abbrev pub behind : List ℕ → List ℕ

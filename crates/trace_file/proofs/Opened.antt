@@ -1,7 +1,8 @@
 -- Opening a file, and one record read from it.
-use Rattle.std.proofs.Common.{◌≡◌, ℕ, ◌+◌, ◌-◌, ◌/◌, ◌<◌, ◌≤◌, false, cond, eqb, ltb, List, ◌∷◌, length, take, drop, Some, None, Ok, Err, Result, sym, refl, ap, ◌∙◌, subst, arith, length-drop, eqb-true, MatchResult}
+use Rattle.std.proofs.Common.{◌≡◌, ℕ, ◌+◌, ◌/◌, ◌≤◌, false, cond, eqb, ltb, List, ◌∷◌, length, take, drop, Some, None, Ok, Err, Result, sym, refl, ap, ◌∙◌, subst, arith, length-drop, eqb-true, MatchResult}
 use Rattle.std.proofs.lemmas.List.{take_rest}
 use Rattle.std.proofs.lemmas.Bool.Decides.{nat_tests}
+use Rattle.std.specs.Borrow.{Bor}
 use Rattle.record.specs.declared.kinds.Counts.{Counts}
 use Rattle.record.specs.declared.kinds.Record.{Record}
 use Rattle.record.specs.declared.causes.Cause.{Cause}
@@ -11,10 +12,10 @@ use Rattle.feed.specs.declared.refusals.Refusal.TheVariants.{ShortHeader}
 use Rattle.feed.specs.Meaning.{Asked, CountsInRange}
 use Rattle.feed.specs.Delivery.{delivering}
 use Rattle.trace_file.specs.declared.layout.Header.{Header}
-use Rattle.trace_file.specs.Layout.{header_of, twelves, slot_at}
+use Rattle.trace_file.specs.Layout.{header_of, twelves}
 use Rattle.trace_file.specs.Opening.{read_as, in_range, file_meaning, opened, opened_under, header_tested, OpensBehind}
 use Rattle.trace_file.specs.Peeking.{Peeked}
-use Rattle.trace_file.proofs.Twelves.{twelves-more, twelves-none, slot-told, slot-none}
+use Rattle.trace_file.proofs.Twelves.{twelves-more}
 use Rattle.trace_file.proofs.Tested.{header-passed, range_same}
 
 -- One step over what is still to be read.
@@ -27,26 +28,20 @@ step-damage : (c : Counts) (place : ℕ) (t : List ℕ) (ts : List (List ℕ)) (
     → Asked (delivering c place (read_as c (t ∷ ts))) (Err (record { cause = k; place = place; depth = 0 })) (delivering c place (read_as c (t ∷ ts)))
 step-damage c place t ts k e = rw e (refl, refl, refl)
 
-abbrev Left : List ℕ → ℕ → List (List ℕ)
-Left bs at = twelves ((length bs - at) / 12) (drop at bs)
+next-record : (c k : Counts) (bs t rest : List ℕ) (place : ℕ) (x : Record) → 12 ≤ length bs → t ≡ take 12 bs → rest ≡ drop 12 bs → k ≡ in_range c → Ok x ≡ decoded k None t
+    → Asked (file_meaning c bs place) (Ok (Some x)) (file_meaning c rest (place + 1))
+next-record c k bs t rest place x h e f g d =
+    let told : decoded (in_range c) None (take 12 bs) ≡ Ok x = (λ i. decoded (sym g i) None (sym e i)) ∙ sym d in
+    subst (λ ts. Asked (delivering (in_range c) place (read_as (in_range c) ts)) (Ok (Some x)) (file_meaning c rest (place + 1))) (sym (twelves-more bs h))
+    (subst (λ bs'. Asked (delivering (in_range c) place (read_as (in_range c) (take 12 bs ∷ twelves (length (drop 12 bs) / 12) (drop 12 bs)))) (Ok (Some x)) (file_meaning c bs' (place + 1))) (sym f)
+    (step-record (in_range c) place (take 12 bs) (twelves (length (drop 12 bs) / 12) (drop 12 bs)) x told))
 
-next-record : (c : Counts) (bs : List ℕ) (at : ℕ) (x : Record) → at + 12 ≤ length bs → decoded (in_range c) None (take 12 (drop at bs)) ≡ Ok x
-    → Asked (file_meaning c bs at) (Ok (Some x)) (file_meaning c bs (at + 12))
-next-record c bs at x h e =
-    let p : at / 12 + 1 ≡ (at + 12) / 12 = omega arith in
-    subst (λ ts. Asked (delivering (in_range c) (at / 12) (read_as (in_range c) ts)) (Ok (Some x)) (file_meaning c bs (at + 12))) (sym (twelves-more bs at h))
-    (subst (λ n. Asked (delivering (in_range c) (at / 12) (read_as (in_range c) (take 12 (drop at bs) ∷ Left bs (at + 12)))) (Ok (Some x)) (delivering (in_range c) n (read_as (in_range c) (Left bs (at + 12))))) p
-    (step-record (in_range c) (at / 12) (take 12 (drop at bs)) (Left bs (at + 12)) x e))
-
-next-damage : (c : Counts) (bs : List ℕ) (at : ℕ) (k : Cause) → at + 12 ≤ length bs → decoded (in_range c) None (take 12 (drop at bs)) ≡ Err k
-    → Asked (file_meaning c bs at) (Err (record { cause = k; place = at / 12; depth = 0 })) (file_meaning c bs at)
-next-damage c bs at k h e =
-    subst (λ ts. Asked (delivering (in_range c) (at / 12) (read_as (in_range c) ts)) (Err (record { cause = k; place = at / 12; depth = 0 })) (delivering (in_range c) (at / 12) (read_as (in_range c) ts))) (sym (twelves-more bs at h))
-    (step-damage (in_range c) (at / 12) (take 12 (drop at bs)) (Left bs (at + 12)) k e)
-
-next-clean : (c : Counts) (bs : List ℕ) (at : ℕ) → length bs < at + 12 → Asked (file_meaning c bs at) (Ok None) (file_meaning c bs at)
-next-clean c bs at h =
-    subst (λ ts. Asked (delivering (in_range c) (at / 12) (read_as (in_range c) ts)) (Ok None) (delivering (in_range c) (at / 12) (read_as (in_range c) ts))) (sym (twelves-none bs at h)) (refl, refl, refl)
+next-damage : (c k : Counts) (bs t : List ℕ) (place : ℕ) (x : Cause) → 12 ≤ length bs → t ≡ take 12 bs → k ≡ in_range c → Err x ≡ decoded k None t
+    → Asked (file_meaning c bs place) (Err (record { cause = x; place = place; depth = 0 })) (file_meaning c bs place)
+next-damage c k bs t place x h e g d =
+    let told : decoded (in_range c) None (take 12 bs) ≡ Err x = (λ i. decoded (sym g i) None (sym e i)) ∙ sym d in
+    subst (λ ts. Asked (delivering (in_range c) place (read_as (in_range c) ts)) (Err (record { cause = x; place = place; depth = 0 })) (delivering (in_range c) place (read_as (in_range c) ts))) (sym (twelves-more bs h))
+    (step-damage (in_range c) place (take 12 bs) (twelves (length (drop 12 bs) / 12) (drop 12 bs)) x told)
 
 -- The tests of a whole file --------------------------------------------------------------------------------------------
 
@@ -63,12 +58,12 @@ opened-file bs h c long e t =
     let whole : h.«length» ≡ length bs = eqb-true _ _ q.fitted in
     let l = q.length_is in
     let d = length-drop 16 bs in
-    let n : h.count ≡ (length (drop 16 bs) - 0) / 12 = omega arith in
+    let n : h.count ≡ length (drop 16 bs) / 12 = omega arith in
     let range : in_range c ≡ c = range_same c (subst CountsInRange q.counts.same q.counts.in_range) in
     opens bs h long e (Ok c) t
     ∙ (ap (λ g. Ok (delivering c 0 (read_as c (twelves g.count (drop 16 bs))))) (sym e)
     ∙ (ap (λ k. Ok (delivering c 0 (read_as c (twelves k (drop 16 bs))))) n
-    ∙ ap (λ g. Ok (delivering g 0 (read_as g (twelves ((length (drop 16 bs) - 0) / 12) (drop 16 bs))))) (sym range)))
+    ∙ ap (λ g. Ok (delivering g 0 (read_as g (twelves (length (drop 16 bs) / 12) (drop 16 bs))))) (sym range)))
 
 pub opens-behind : (bs : List ℕ) (h : Header) → 16 ≤ length bs → h ≡ header_of bs → (r : Result Counts Refusal) → r ≡ header_tested 4096 (eqb h.«length» (length bs)) h
     → MatchResult r (λ c. (16 ≤ length bs) × OpensBehind bs c) (λ e. opened bs ≡ Err e)
@@ -77,13 +72,9 @@ opens-behind bs h long e (Err x) t = opens bs h long e (Err x) t
 
 -- What peeking says --------------------------------------------------------------------------------------------------------
 
-pub peeked-none : (c : Counts) (bs : List ℕ) (at : ℕ) → None ≡ slot_at bs at → Peeked c bs at None
-peeked-none c bs at q = next-clean c bs at (slot-none bs at q)
-
-pub peeked : (c k : Counts) (bs : List ℕ) (at : ℕ) (t : List ℕ) (r : Result Record Cause) → Some t ≡ slot_at bs at → k ≡ in_range c → r ≡ decoded k None t → Peeked c bs at (Some r)
-peeked c k bs at t (Ok x) q e d =
-    let h = slot-told bs at t q in
-    (h.0, next-record c bs at x h.0 (ap (λ l. decoded (in_range c) None l) (sym h.1) ∙ (ap (λ g. decoded g None t) (sym e) ∙ sym d)))
-peeked c k bs at t (Err cause) q e d =
-    let h = slot-told bs at t q in
-    next-damage c bs at cause h.0 (ap (λ l. decoded (in_range c) None l) (sym h.1) ∙ (ap (λ g. decoded g None t) (sym e) ∙ sym d))
+pub peeked : (c k : Counts) (bs t : List ℕ) (rest : Bor (List ℕ)) (place : ℕ) (r : Result Record Cause) → 12 ≤ length bs → t ≡ take 12 bs → rest.now ≡ drop 12 bs → k ≡ in_range c → r ≡ decoded k None t → Peeked c bs place (Some (r, rest))
+peeked c k bs t rest place (Ok x) h e f g d =
+    let n = length-drop 12 bs in
+    let l = ap length f in
+    (omega arith, next-record c k bs t rest.now place x h e f g d)
+peeked c k bs t rest place (Err x) h e f g d = next-damage c k bs t place x h e g d

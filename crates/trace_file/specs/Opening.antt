@@ -42,9 +42,9 @@ read_as c ts = map (decoded c None) ts
 abbrev pub in_range : Counts → Counts
 in_range c = record { threads = max 1 (min 8 c.threads); addresses = max 1 (min 64 c.addresses) }
 
--- what a file means of whose record bytes bs those before `at` were read
+-- what a file means of which so many records were read and these bytes are left
 abbrev pub file_meaning : Counts → List ℕ → ℕ → Meaning
-file_meaning c bs at = delivering (in_range c) (at / 12) (read_as (in_range c) (twelves ((length bs - at) / 12) (drop at bs)))
+file_meaning c bs place = delivering (in_range c) place (read_as (in_range c) (twelves (length bs / 12) bs))
 
 abbrev pub opened_under : List ℕ → Result Counts Refusal → Result Meaning Refusal
 opened_under bs (Err e) = Err e

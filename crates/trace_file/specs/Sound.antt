@@ -1,5 +1,5 @@
 -- A file's meaning is well made, in whatever state it is read, and its damage is found there.
-use Rattle.std.specs.Prelude.{◌≡◌, ℕ, ◌-◌, ◌/◌, List, [], ◌∷◌, length, drop, None, Ok, Err, Result, refl}
+use Rattle.std.specs.Prelude.{◌≡◌, ℕ, ◌/◌, List, [], ◌∷◌, length, None, Ok, Err, Result, refl}
 use Rattle.std.proofs.Common.{arith}
 use Rattle.record.specs.declared.kinds.Counts.{Counts}
 use Rattle.record.specs.declared.kinds.Record.{Record}
@@ -23,8 +23,8 @@ all_well_made : (c : Counts) (ts : List (List ℕ)) → ReadWellMade c (read_as 
 all_well_made c [] = tt
 all_well_made c (t ∷ ts) = one-well-made c t (read_as c ts) (decoded c None t) refl (all_well_made c ts)
 
-pub file_sound : (c : Counts) (bs : List ℕ) (at : ℕ) → WellMade (file_meaning c bs at)
-file_sound c bs at = delivering-sound (in_range c) (at / 12) (read_as (in_range c) (twelves ((length bs - at) / 12) (drop at bs))) (counts_in_range c) (all_well_made (in_range c) (twelves ((length bs - at) / 12) (drop at bs)))
+pub file_sound : (c : Counts) (bs : List ℕ) (place : ℕ) → WellMade (file_meaning c bs place)
+file_sound c bs place = delivering-sound (in_range c) place (read_as (in_range c) (twelves (length bs / 12) bs)) (counts_in_range c) (all_well_made (in_range c) (twelves (length bs / 12) bs))
 
-pub file_found : (c : Counts) (bs : List ℕ) (at : ℕ) → FoundHere (file_meaning c bs at).ending
-file_found c bs at = delivering-found (at / 12) (read_as (in_range c) (twelves ((length bs - at) / 12) (drop at bs)))
+pub file_found : (c : Counts) (bs : List ℕ) (place : ℕ) → FoundHere (file_meaning c bs place).ending
+file_found c bs place = delivering-found place (read_as (in_range c) (twelves (length bs / 12) bs))

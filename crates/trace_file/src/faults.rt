@@ -9,7 +9,7 @@ use feed::Refusal;
 use record::{Cause, Damage};
 
 /// Why the record writer wrote nothing.
-#[derive(Clone, Copy)]
+#[derive(Clone, Copy, PartialEq, Eq, Debug)]
 pub enum Unwritten {
     /// The record is not well made.
     BadRecord(Cause),
@@ -37,7 +37,7 @@ impl From<Unwritten> for Refusal {
 }
 
 /// Why a trace was not copied.
-#[derive(Clone, Copy)]
+#[derive(Clone, Copy, PartialEq, Eq, Debug)]
 pub enum Uncopied {
     /// The source is no trace file, or the target is too short.
     Refused(Refusal),

@@ -1,11 +1,11 @@
 //! Opening lent bytes as a trace file.
 
-ghost use Rattle.std.specs.Prelude.{◌≡◌, ◌/◌, ◌≤◌, length, drop, IfOk, Ok, Err, MatchResult};
+ghost use Rattle.std.specs.Prelude.{◌≡◌, ◌+◌, ◌/◌, ◌≤◌, length, drop, IfOk, Ok, Err, MatchResult};
 ghost use Rattle.feed.specs.Pile.{bottom};
 ghost use Rattle.trace_file.specs.Opening.{opened, OpensBehind};
 ghost use Rattle.trace_file.specs.contracts.reading.TraceFileFeed.TheImpl.{ghosts as feed_of};
 
-use crate::layout::{Header, MOST_RECORDS};
+use crate::layout::{HEADER_BYTES, Header, MOST_RECORDS};
 use crate::reading::TraceFile;
 use feed::Refusal;
 use record::{Counts, RECORD_BYTES};
@@ -24,29 +24,28 @@ impl<'a> TraceFile<'a> {
     /// Refuses a short header, a number of threads or addresses or records out of range, and a broken layout, tested in this order.
     pub fn open(bytes: &'a [u8]) -> Result<TraceFile<'a>, Refusal>
         ensures answer { MatchResult result (λ f. opened bytes.now ≡ Ok (feed_of.meaning f)) (λ e. opened bytes.now ≡ Err e) }
-        ensures at_its_start { IfOk result (λ f. (f.at ≡ 0) × (f.records.now ≡ drop 16 bytes.now)) }
+        ensures at_its_start { IfOk result (λ f. (f.place ≡ 0) × (f.records.now ≡ drop 16 bytes.now)) }
         ensures bottom_of_its_pile { IfOk result (λ f. (feed_of.pile f ≡ bottom (feed_of.meaning f)) × feed_of.unread f) }
     {
         let counts = test_file(bytes)?;
-        let records = &bytes[16..];
         Ok(TraceFile {
             counts,
-            records,
-            at: 0,
+            records: &bytes[HEADER_BYTES..],
+            place: 0,
         })
     }
 
     /// How many records the file has, well made or not.
     pub fn count(&self) -> usize
-        ensures { result ≡ length self.now.records.now / 12 }
+        ensures { result ≡ self.now.place + length self.now.records.now / 12 }
     {
-        self.records.len() / RECORD_BYTES
+        self.records.len() / RECORD_BYTES + self.place
     }
 
     /// How many records were read.
     pub fn place(&self) -> usize
-        ensures { result ≡ self.now.at / 12 }
+        ensures { result ≡ self.now.place }
     {
-        self.at / RECORD_BYTES
+        self.place
     }
 }

@@ -1,6 +1,6 @@
 //! A trace file as a feed of its records.
 
-ghost use Rattle.std.specs.Prelude.{◌≡◌, refl};
+ghost use Rattle.std.specs.Prelude.{◌≡◌, ◌+◌, ◌/◌, ◌^◌, ◌<◌, length, refl};
 ghost use Rattle.feed.specs.Pile.{bottom};
 ghost use Rattle.trace_file.specs.Layout.{slot_at};
 ghost use Rattle.trace_file.specs.Opening.{file_meaning};
@@ -15,23 +15,20 @@ use record::{Cause, Counts, Damage, Record};
 #[derive(Clone, Copy)]
 pub struct TraceFile<'a> {
     pub(crate) counts: Counts,
-    /// The bytes behind the header.
+    /// The bytes that were not read yet.
     pub(crate) records: &'a [u8],
-    /// How many of them were read.
-    pub(crate) at: usize,
+    /// How many records were read.
+    pub(crate) place: usize,
+    ghost countable: { place + length records.now / 12 < 2 ^ 64 },
 }
 
-impl TraceFile<'_> {
-    /// What the next twelve bytes are read as, if so many are left.
-    fn peek(&self) -> Option<Result<Record, Cause>>
-        ensures { Peeked self.now.counts self.now.records.now self.now.at result }
+impl<'a> TraceFile<'a> {
+    /// What the next twelve bytes are read as, with the bytes behind them, if so many are left.
+    fn peek(&self) -> Option<(Result<Record, Cause>, &'a [u8])>
+        ensures { Peeked self.now.counts self.now.records.now self.now.place result }
     {
-        let records = self.records;
-        if self.at > records.len() {
-            return None;
-        }
-        let bytes = first_twelve(&records[self.at..])?;
-        Some(Record::decode(&bytes, self.counts(), None))
+        let (bytes, rest) = self.records.split_first_chunk()?;
+        Some((Record::decode(bytes, self.counts(), None), rest))
     }
 }
 
@@ -39,20 +36,17 @@ impl TraceFile<'_> {
 pub fn first_twelve(bytes: &[u8]) -> Option<[u8; 12]>
     ensures { result ≡ slot_at bytes.now 0 }
 {
-    let [k, t, a0, a1, w, m, n0, n1, v0, v1, v2, v3, ..] = bytes else {
-        return None;
-    };
-    Some([*k, *t, *a0, *a1, *w, *m, *n0, *n1, *v0, *v1, *v2, *v3])
+    bytes.first_chunk().copied()
 }
 
 impl Feed for TraceFile<'_> {
-    ghost meaning = { λ s. file_meaning s.counts s.records.now s.at };
+    ghost meaning = { λ s. file_meaning s.counts s.records.now s.place };
 
-    ghost pile = { λ s. bottom (file_meaning s.counts s.records.now s.at) };
+    ghost pile = { λ s. bottom (file_meaning s.counts s.records.now s.place) };
 
     ghost unread = { λ _. Unit {0} };
 
-    ghost laws = { record { sound = λ s. file_sound s.counts s.records.now s.at; proper = λ s _. (file_sound s.counts s.records.now s.at, file_found s.counts s.records.now s.at); opens = λ s _. refl } };
+    ghost laws = { record { sound = λ s. file_sound s.counts s.records.now s.place; proper = λ s _. (file_sound s.counts s.records.now s.place, file_found s.counts s.records.now s.place); opens = λ s _. refl } };
 
     fn counts(&self) -> Counts {
         in_range(self.counts)
@@ -61,13 +55,14 @@ impl Feed for TraceFile<'_> {
     fn next(&mut self) -> Result<Option<Record>, Damage> {
         match self.peek() {
             None => Ok(None),
-            Some(Ok(record)) => {
-                self.at += 12;
+            Some((Ok(record), rest)) => {
+                self.records = rest;
+                self.place += 1;
                 Ok(Some(record))
             }
-            Some(Err(cause)) => Err(Damage {
+            Some((Err(cause), _)) => Err(Damage {
                 cause,
-                place: self.at / 12,
+                place: self.place,
                 depth: 0,
             }),
         }

@@ -7,7 +7,7 @@ ghost use Rattle.trace_file.specs.Layout.{header_bytes, header_of, trace_length}
 ghost use Rattle.trace_file.specs.Writing.{writable, begins, begun, append_tested, appends, placed, counted, appended};
 
 use crate::faults::Unwritten;
-use crate::layout::{HEADER_BYTES, Header, MOST_RECORDS, test_counts};
+use crate::layout::{HEADER_BYTES, Header, MOST_RECORDS, test_counts, trace_length};
 use feed::Refusal;
 use record::{Counts, RECORD_BYTES, Record};
 
@@ -34,20 +34,14 @@ pub fn write_record(slot: &mut [u8], record: Record, counts: Counts) -> Result<(
     Ok(())
 }
 
-/// How many bytes a trace of so many records has.
-fn trace_length(count: u32) -> usize
-    ensures { result ≡ trace_length count }
-{
-    HEADER_BYTES + RECORD_BYTES * count as usize
-}
-
 /// The sixteen bytes of the header of an empty trace.
 fn empty_header(counts: Counts) -> [u8; 16]
     ensures { result ≡ header_bytes counts 0 }
 {
-    let [t0, t1] = u16::from(counts.threads).to_be_bytes();
-    let [a0, a1] = u16::from(counts.addresses).to_be_bytes();
-    [t0, t1, a0, a1, 0, 0, 0, 0, 0, 0, 0, 16, 0, 0, 0, 16]
+    let Counts { threads, addresses } = counts;
+    [
+        0, threads, 0, addresses, 0, 0, 0, 0, 0, 0, 0, 16, 0, 0, 0, 16,
+    ]
 }
 
 /// Puts the header of an empty trace at the front of the buffer, and returns the length of that trace.
@@ -93,6 +87,7 @@ fn put_record(buf: &mut [u8], record: Record, counts: Counts) -> Result<(), Unwr
     ensures answer { result ≡ Ok tt }
     ensures after { buf.new ≡ placed (trace_length (header_of buf.old).count) (bytes_of «record») buf.old }
 {
+    // The customer asked that the header is taken apart by a pattern, and the rest behind it lent on.
     let [
         t0,
         t1,
@@ -115,7 +110,7 @@ fn put_record(buf: &mut [u8], record: Record, counts: Counts) -> Result<(), Unwr
     else {
         return Err(Unwritten::ShortSlot);
     };
-    let header = Header::of([
+    let header = Header::from([
         t0, t1, a0, a1, n0, n1, n2, n3, o0, o1, o2, o3, l0, l1, l2, l3,
     ]);
     let start = RECORD_BYTES * header.count as usize;

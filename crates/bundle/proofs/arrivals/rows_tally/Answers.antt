@@ -1,14 +1,12 @@
-use Rattle.std.proofs.Common.{drop, sym, ◌∙◌, arith}
-use Rattle.std.proofs.lemmas.List.{at_drop_all}
-use Rattle.bundle.specs.Arrivals.{rows_tally}
-use Rattle.bundle.proofs.Tallied.{rows_more, rows_other}
+use Rattle.std.proofs.Common.{eqb, ◌∙◌, rules, tests, arith}
+use Rattle.std.proofs.lemmas.Iterator.{YieldsList-from_slice, YieldsList-from_zip}
+use Rattle.std.proofs.lemmas.Iterator.Search.{all_from_yields_List}
+use Rattle.bundle.proofs.Tallied.{rows-zipped}
 use Rattle.bundle.proofs.arrivals.rows_tally.Goals as goal
 
-pub loop-t-preserved : goal.loop-t-preserved
-loop-t-preserved c = rows_more c.args.rows.now c.args.named.now c.loop-t.t _ (omega arith) (omega arith) c.if-row-named.false c.loop-t.invariant
-
-pub returns-then-row-named : goal.returns-then-row-named
-returns-then-row-named c = rows_other c.args.rows.now c.args.named.now c.loop-t.t _ (omega arith) (omega arith) c.if-row-named.true c.loop-t.invariant
-
 pub returns : goal.returns
-returns c = sym (at_drop_all (λ rows. rows_tally rows (drop c.loop-t.t c.args.named.now)) c.args.rows.now c.loop-t.t (omega arith)) ∙ c.loop-t.invariant
+returns c =
+    let rows = c.args.rows.now in
+    let named = c.args.named.now in
+    all_from_yields_List (λ p. eqb p.0.count p.1) c.all.new.self _ c.all.result c.all.ensures.ran (YieldsList-from_zip (YieldsList-from_slice rows cc) (YieldsList-from_slice named cc)) (λ x b q k. search (rules, tests))
+    ∙ rows-zipped rows named (omega arith)

@@ -9,8 +9,8 @@ pub returns : goal.returns
 returns c =
     let bs = c.args.buf.now in
     let x = c.args.record in
-    let s = 12 * c.of-header.result.count in
-    let n : c.of-header.result.count ≡ (header_of bs).count = ap (λ h. h.count) c.of-header.ensures in
+    let s = 12 * c.from-header.result.count in
+    let n : c.from-header.result.count ≡ (header_of bs).count = ap (λ h. h.count) c.from-header.ensures in
     let p = c.requires.room in
     let long : 16 ≤ length bs = omega arith in
     let r = room bs long in
