@@ -20,22 +20,24 @@ const SHIPPED: &[u8; 52] = b"\x00\x02\x00\x01\x00\x00\x00\x03\x00\x00\x00\x10\x0
 \x02\x01\x00\x00\x00\x00\x00\x01\x00\x00\x00\x01\
 \x02\x01\x00\x00\xff\x00\x00\x00\x00\x00\x00\x00";
 
+/// Prints the name of a trace, and compares its sites.
+fn compare_named(rt: &HostRuntime, name: &str) -> anyhow::Result<bool> {
+    println!(rt; "{name}")?;
+    let mut bytes = Vec::new(rt.alloc());
+    fs::open(rt, name)?
+        .take(MOST_BYTES)
+        .read_to_end(&mut bytes)?;
+    Ok(compare(rt, bytes.as_slice())?)
+}
+
 /// Compares the sites of each trace that an argument names, or of the shipped one where there is none.
 fn run(rt: &HostRuntime) -> anyhow::Result<()> {
-    let mut named = false;
-    let mut words = env::args(rt)?;
-    let _program = words.next();
-    for name in words {
-        named = true;
-        println!(rt; "{name}")?;
-        let mut bytes = Vec::new(rt.alloc());
-        fs::open(rt, name.as_str())?
-            .take(MOST_BYTES)
-            .read_to_end(&mut bytes)?;
-        let _same = compare(rt, bytes.as_slice())?;
-    }
-    if !named {
+    let mut names = env::args(rt)?.skip(1).peekable();
+    if names.peek().is_none() {
         let _same = compare(rt, SHIPPED)?;
+    }
+    for name in names {
+        let _same = compare_named(rt, name.as_str())?;
     }
     Ok(())
 }
