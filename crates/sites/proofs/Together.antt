@@ -1,6 +1,5 @@
 -- The sites of one trace agree.
-use Rattle.std.proofs.Common.{◌≡◌, ℕ, ◌+◌, ◌<◌, ◌≤◌, Bool, true, false, ◌&&◌, List, [], ◌∷◌, length, get_or, drop, Some, None, Ok, Err, Option, Result, sym, ap, ◌∙◌, subst, arith, length-drop}
-use Rattle.std.proofs.lemmas.List.{drop_more, drop_all}
+use Rattle.std.proofs.Common.{◌≡◌, ℕ, ◌<◌, ◌≤◌, true, ◌&&◌, [], ◌∷◌, length, drop, Some, None, Ok, Err, Option, Result, sym, ap, ◌∙◌, subst, arith, length-drop}
 use Rattle.model.specs.declared.outcomes.Outcome.{Outcome}
 use Rattle.feed.specs.Pile.{Pile, bottom_of, bottoms_records}
 use Rattle.judging.specs.Sites.{TellsBottom}
@@ -16,19 +15,6 @@ tell-alike p q e n l a b s t =
     let x = s.settles l in
     let y = t.settles (subst (λ m. length m.waiting < n) e l) in
     (λ i. both_agree (x.1 i) (y.1 i)) ∙ sites-agree p q e n n x.0 y.0 (subst (TellsBottom p n) x.1 s) (subst (TellsBottom q n) y.1 t)
-
-module _ (o : Option Outcome) (xs : List (Option Outcome)) (i : ℕ) (d : Option Outcome) where
-  at_one : (r : Bool) → i < length xs → r ≡ both_agree o (get_or xs i d) → all_agree o (drop i xs) ≡ all_agree o xs → (r && all_agree o (drop (i + 1) xs)) ≡ all_agree o xs
-  at_one r l e q = ap (λ b. b && all_agree o (drop (i + 1) xs)) e ∙ (ap (all_agree o) (sym (drop_more xs i d l)) ∙ q)
-
-  pub differs : (r : Bool) → i < length xs → r ≡ both_agree o (get_or xs i d) → r ≡ false → all_agree o (drop i xs) ≡ all_agree o xs → false ≡ all_agree o xs
-  differs r l e t q = sym (ap (λ b. b && all_agree o (drop (i + 1) xs)) t) ∙ at_one r l e q
-
-  pub agrees-so-far : (r : Bool) → i < length xs → r ≡ both_agree o (get_or xs i d) → r ≡ true → all_agree o (drop i xs) ≡ all_agree o xs → all_agree o (drop (i + 1) xs) ≡ all_agree o xs
-  agrees-so-far r l e t q = sym (ap (λ b. b && all_agree o (drop (i + 1) xs)) t) ∙ at_one r l e q
-
-  pub all-agreed : length xs ≤ i → all_agree o (drop i xs) ≡ all_agree o xs → true ≡ all_agree o xs
-  all-agreed l q = sym (ap (all_agree o) (drop_all i xs l)) ∙ q
 
 -- four others over the same bottom
 pub four-agree : (p q r s t : Pile) → bottom_of p ≡ bottom_of q → bottom_of p ≡ bottom_of r → bottom_of p ≡ bottom_of s → bottom_of p ≡ bottom_of t → (n : ℕ) → length (bottoms_records p) < n

@@ -1,5 +1,6 @@
 -- Whether the sites agree.
-use Rattle.std.specs.Prelude.{Bool, true, false, ◌&&◌, List, [], ◌∷◌, drop, Some, None, Option}
+use Rattle.std.specs.Prelude.{Bool, false, List, drop, Some, None, Option}
+use Rattle.std.specs.List.{list_all}
 use Rattle.feed.specs.Meaning.{Meaning}
 use Rattle.model.specs.declared.outcomes.Outcome.{Outcome}
 use Rattle.driving.specs.Agreeing.{agreeing}
@@ -12,8 +13,7 @@ both_agree (Some a) (Some b) = agreeing a b
 
 -- each of the others agrees with the first
 abbrev pub all_agree : Option Outcome → List (Option Outcome) → Bool
-all_agree o [] = true
-all_agree o (x ∷ xs) = both_agree o x && all_agree o xs
+all_agree o xs = list_all (both_agree o) xs
 
 -- a feed whose first record, if it had one, was read
 abbrev pub behind_one : Meaning → Meaning

@@ -30,6 +30,7 @@ fn with_thread(outcome: Outcome, thread: u8) -> Outcome
 }
 
 /// What there is to say of a site.
+#[derive(Clone, Copy)]
 pub struct Site<'a> {
     /// Its pile in words.
     pub name: &'a str,
