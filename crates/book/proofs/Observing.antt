@@ -1,6 +1,6 @@
 -- What a view keeps, as its reader observes more and as the other thread goes on.
 use Rattle.std.proofs.Common.{◌≡◌, ℕ, zero, suc, ◌+◌, ◌-◌, ◌<◌, ◌≤◌, max, Bool, true, false, cond, ◌&&◌, ◌||◌, eqb, ltb, leb, ◌≢◌, List, [], ◌∷◌, ◌++◌, length, get_or, drop, sym, refl, ap, ◌∙◌, subst, ⊎_elim, add-one, arith, length-append, length-set, drop-cons, get_or-set_other, get_or-set_same, ltb-false, ltb-true, le-ltb, lt-ltb, eq-eqb, ne_eqb, eqb-true, le-leb}
-use mathlib.Core.Bool.{false≢true, and-false}
+use mathlib.Core.Bool.{false≢true, and-true, and-false, or-false}
 use borrow.Author.Tests.{lt-leb, eqb-false}
 use Rattle.std.proofs.lemmas.List.{drop_all}
 use Rattle.std.proofs.lemmas.Bool.{cases_lt, cases_order, and_parts, and_from, or_cases, or_left, or_right}
@@ -107,12 +107,8 @@ module _ (xs : List Record) (f : ℕ → ℕ) where
           (λ i. ltb n (get_or cov a 0) || (at-write-to a xs w i && leb n (f w)))
           ∙ (λ i. ltb n (get_or cov a 0) || (e i && eqb (q i) a && leb n (f w)))
           ∙ (λ i. ltb n (get_or cov a 0) || (d i && leb n (f w)))
-          ∙ or_no (ltb n (get_or cov a 0))
+          ∙ or-false (ltb n (get_or cov a 0))
           ∙ ap (λ (m : ℕ). ltb n m) (sym (get_or-set_other cov b a (max (get_or cov b 0) (suc (f w))) 0 ne))
-        where
-          or_no : (x : Bool) → (x || false) ≡ x
-          or_no true = refl
-          or_no false = refl
 
 -- a table's numbers are the largest, each counted one higher, exactly if the table is right for every number below them
 module _ (xs : List Record) (f : ℕ → ℕ) (S : ℕ → Bool) (tops : ℕ → ℕ → ℕ) (none : (a : ℕ) → tops a 0 ≡ 0) (more : (a k : ℕ) → tops a (suc k) ≡ max (cond (S k && is_at (is_write_to a) xs k) (suc (f k)) 0) (tops a k)) (cov : List ℕ) where
@@ -335,13 +331,9 @@ view-grown xs x v seen ev kept = record {
 
 -- What the reasons ask of a thread's own writes ------------------------------------------------------------------------
 
-and_yes : (b : Bool) → b ≡ (b && true)
-and_yes true = refl
-and_yes false = refl
-
 pub written-to-is : (xs : List Record) (last : List ℕ) (a : ℕ) → a < 64 → ((a : ℕ) → a < 64 → get_or last a 0 ≡ last_to xs a (length xs)) → written_to xs a ≡ ltb 0 (get_or last a 0)
 written-to-is xs last a l h =
-    any_same (length xs) _ _ (λ k m. and_yes (is_at (is_write_to a) xs k) ∙ (λ j. is_at (is_write_to a) xs k && sym (le-leb 0 (up_to is_write xs k) (omega arith)) j))
+    any_same (length xs) _ _ (λ k m. sym (and-true (is_at (is_write_to a) xs k)) ∙ (λ j. is_at (is_write_to a) xs k && sym (le-leb 0 (up_to is_write xs k) (omega arith)) j))
     ∙ lasts-from xs last h a 0 l
 
 pub written-behind-is : (xs : List Record) (last : List ℕ) (w a : ℕ) → a < 64 → is_at is_write xs w ≡ true → ((a : ℕ) → a < 64 → get_or last a 0 ≡ last_to xs a (length xs)) → written_behind xs w a ≡ ltb (suc (up_to is_write xs w)) (get_or last a 0)
@@ -349,4 +341,4 @@ written-behind-is xs last w a l e h = any_same (length xs) _ _ (λ k m. go k (is
   where
     go : (k : ℕ) (b : Bool) → is_at (is_write_to a) xs k ≡ b → (ltb w k && b) ≡ (b && leb (suc (up_to is_write xs w)) (up_to is_write xs k))
     go k false c = and-false (ltb w k)
-    go k true c = sym (and_yes (ltb w k)) ∙ sym (up_to-ltb is_write xs w k e (to-parts xs a k c).0)
+    go k true c = and-true (ltb w k) ∙ sym (up_to-ltb is_write xs w k e (to-parts xs a k c).0)

@@ -1,9 +1,9 @@
 -- What a page keeps of its own thread's records, with one more.
-use Rattle.std.proofs.Common.{◌≡◌, ℕ, zero, suc, ◌+◌, ◌*◌, ◌<◌, ◌≤◌, max, Bool, true, false, cond, ◌&&◌, ◌||◌, eqb, ◌≢◌, ◌⊎◌, List, [], ◌∷◌, ◌++◌, length, get_or, set, sym, refl, ap, ◌∙◌, subst, inl, inr, ⊎_elim, append-nil, add-one, arith, length-append, length-set, get_or-set_other, get_or-set_same, le-ltb, eqb-true}
+use Rattle.std.proofs.Common.{◌≡◌, ℕ, zero, suc, ◌+◌, ◌*◌, ◌<◌, ◌≤◌, max, Bool, true, false, cond, ◌&&◌, ◌||◌, eqb, ◌≢◌, ◌⊎◌, List, [], ◌∷◌, ◌++◌, length, get_or, set, sym, refl, ap, ◌∙◌, subst, inl, inr, ⊎_elim, append-nil, add-one, arith, length-set, get_or-set_other, get_or-set_same, le-ltb, eqb-true}
 use mathlib.Core.Bool.{false≢true}
 use borrow.Author.Tests.{lt-leb, eqb-false}
 use Rattle.std.proofs.lemmas.Bool.{cases_lt}
-use Rattle.std.proofs.lemmas.List.{get_or_append_left, get_or_push}
+use Rattle.std.proofs.lemmas.List.{length_push, get_or_append_left, get_or_push}
 use Rattle.record.specs.declared.kinds.Mode.{Mode}
 use Rattle.record.specs.declared.kinds.Mode.TheVariants.{Relaxed, Strict}
 use Rattle.record.specs.declared.kinds.Source.{Source}
@@ -24,8 +24,8 @@ use Rattle.book.specs.Kept.{up_to, last_to, written_at, notified_at, OwnKept}
 use Rattle.book.proofs.Numbers.{is-inside, at-end, count-end, count-few, up_to-grown, up_to-end, up_to-less, rank-grown, rank-end, stricts-end, stricts-few}
 use Rattle.book.proofs.Observing.{to-parts}
 
-pub length_more : {A : Type 0} (xs : List A) (x : A) → length (xs ++ x ∷ []) ≡ suc (length xs)
-length_more xs x = length-append xs (x ∷ []) ∙ add-one (length xs)
+length_more : (xs : List Record) (x : Record) → length (xs ++ x ∷ []) ≡ suc (length xs)
+length_more xs x = length_push xs x ∙ add-one (length xs)
 
 -- Lists of what such records hold -----------------------------------------------------------------------------------
 
@@ -147,7 +147,7 @@ module _ (p : Page) (n : ℕ) (xs : List Record) (o : OwnKept p n xs) (l : n < 5
   counts-more q x m e f = omega (arith, count-end q xs x, ap bit f)
 
   lists-more : {A : Type 0} (q : Record → Bool) (x : Record) (ys : List A) (y : A) → length ys ≡ how_many q xs → q x ≡ true → length (ys ++ y ∷ []) ≡ how_many q (xs ++ x ∷ [])
-  lists-more q x ys y e f = length_more ys y ∙ sym (add-one (length ys)) ∙ counts-more q x (length ys) e f
+  lists-more q x ys y e f = length_push ys y ∙ counts-more q x (length ys) e f
 
   -- a record that has no place
   own-none : OwnKept (tallied p 0) (suc n) xs

@@ -11,6 +11,7 @@ use crate::views::View;
 use record::Record;
 use std::array;
 
+/// What is kept of each thread's records. A page stands in it for each thread that there can be, since the judge allocates nothing.
 #[derive(Drop)]
 pub struct Book {
     pub(crate) pages: [Page; 8],

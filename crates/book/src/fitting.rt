@@ -1,4 +1,4 @@
-//! Whether a record can stand in the book.
+//! A record that can stand in the book.
 
 ghost use Rattle.std.specs.Prelude.{◌≡◌, ◌&&◌, true, is_some, IfSome, nat_le};
 ghost use Rattle.record.specs.WellMade.{thread_of};
@@ -40,7 +40,7 @@ impl<'a> Entry<'a> {
 }
 
 /// The record's threads are below their number, and its address is below 64.
-pub(crate) fn fits(threads: u8, record: &Record) -> bool
+fn fits(threads: u8, record: &Record) -> bool
     ensures { result ≡ fitting threads «record».now }
 {
     match record {

@@ -13,6 +13,7 @@ pub(crate) fn number_at(table: &[u16; 64], address: u16) -> u16
 pub(crate) fn set_number(table: &mut [u16; 64], address: u16, number: u16)
     ensures { table.new ≡ slice_set table.old address number }
 {
+    // No `get_mut`, whose contract does not say in this form what is written back.
     if address < 64 {
         table[address as usize] = number;
     }

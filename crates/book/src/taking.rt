@@ -60,6 +60,7 @@ impl Book {
         ensures { self.new.pages ≡ waiting threads.count self.old.pages waiter.index (page_at self.old.pages waiter.index).waits }
     {
         let phase = self.page(waiter).waits;
+        // By number, since each turn changes a page.
         for u in 0..threads.count {
             if u != waiter.index {
                 self.look(
