@@ -1,4 +1,4 @@
-pub mod FromFn
+pub mod Arrays
 pub mod Front
 pub mod Rows
 pub mod Passed

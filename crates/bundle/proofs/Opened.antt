@@ -1,5 +1,5 @@
 -- Opening a bundle: what it means, and that it delivers its logs in order.
-use Rattle.std.proofs.Common.{◌≡◌, ℕ, suc, ◌+◌, ◌-◌, ◌*◌, ◌/◌, ◌≤◌, min, Bool, true, false, cond, List, [], ◌∷◌, ◌++◌, map, length, get_or, take, drop, Some, Ok, Err, filter, Result, sym, refl, ap, ◌∙◌, subst, arith}
+use Rattle.std.proofs.Common.{◌≡◌, ℕ, suc, ◌+◌, ◌*◌, ◌/◌, ◌≤◌, Bool, true, false, cond, List, [], ◌∷◌, ◌++◌, map, length, get_or, take, drop, Some, Ok, Err, filter, Result, sym, refl, ap, ◌∙◌, subst, arith}
 use Rattle.std.proofs.lemmas.List.{take_all, length-map}
 use Rattle.record.specs.declared.kinds.Counts.{Counts}
 use Rattle.record.specs.declared.kinds.Record.{Record}
@@ -14,12 +14,13 @@ use Rattle.feed.specs.Delivery.{delivering}
 use Rattle.trace_file.specs.Layout.{twelves}
 use Rattle.trace_file.proofs.Tested.{never, inner, range_same}
 use Rattle.bundle.specs.declared.layout.Row.{Row}
-use Rattle.bundle.specs.declared.logs.Log.{Log}
+use Rattle.std.specs.Borrow.{Bor}
+use Rattle.bundle.proofs.Slots.{whole-log}
 use Rattle.bundle.specs.declared.testing.Contents.{Contents}
 use Rattle.bundle.specs.Layout.{rows_of, slots_of}
 use Rattle.bundle.specs.Contents.{contents_of, row_at, Within}
 use Rattle.bundle.specs.Arrivals.{times_named, uses_exactly}
-use Rattle.bundle.specs.Reading.{read_as_arriving, log_for, slots_left, bundle_meaning}
+use Rattle.bundle.specs.Reading.{read_as_arriving, log_bytes, bytes_of, slots_left, bundle_meaning}
 use Rattle.bundle.specs.Opening.{arrivals_of, opened_under, opened}
 use Rattle.bundle.specs.Laws.{arrival_list, log_of, delivered_of, InOrder, LogsInOrder, OpensAs}
 use Rattle.bundle.proofs.Passed.{ContentsRead, contents-read}
@@ -88,18 +89,19 @@ logs-in-order bs m e = opened-on bs m (contents_of bs) refl e
 
 -- Opening ---------------------------------------------------------------------------------------------------------------
 
--- where a log stands within the bytes, all of it is left
-whole-log : (bs : List ℕ) (row : Row) → row.offset + 12 * row.count ≤ length bs → slots_left bs (log_for row) ≡ slots_of bs row
-whole-log bs row h = let e : min row.count ((length bs - row.offset) / 12) ≡ row.count = omega arith in ap (λ n. twelves n (drop row.offset bs)) e
+whole-logs : (bs : List ℕ) (rows : List Row) (logs : List (Bor (List ℕ))) → map bytes_of logs ≡ map (log_bytes bs) rows → ((t : ℕ) → (row_at rows t).offset + 12 * (row_at rows t).count ≤ length bs) → map slots_left logs ≡ map (slots_of bs) rows
+whole-logs bs [] [] e h = refl
+whole-logs bs [] (log ∷ logs) e h = absurd (let z : ◌≡◌ {A = ℕ} (length (map bytes_of (log ∷ logs))) 0 = ap length e in let f : ⊥ = omega arith in f)
+whole-logs bs (row ∷ rows) [] e h = absurd (let z : ◌≡◌ {A = ℕ} 0 (length (map (log_bytes bs) (row ∷ rows))) = ap length e in let f : ⊥ = omega arith in f)
+whole-logs bs (row ∷ rows) (log ∷ logs) e h =
+    let first : log.now ≡ log_bytes bs row = ap (λ l. get_or l 0 []) e in
+    let later : map bytes_of logs ≡ map (log_bytes bs) rows = ap (drop 1) e in
+    λ i. (ap (λ l. twelves (length l / 12) l) first ∙ whole-log bs row (h 0)) i ∷ whole-logs bs rows logs later (λ t. h (suc t)) i
 
-whole-logs : (bs : List ℕ) (rows : List Row) → ((t : ℕ) → (row_at rows t).offset + 12 * (row_at rows t).count ≤ length bs) → map (slots_left bs) (map log_for rows) ≡ map (slots_of bs) rows
-whole-logs bs [] h = refl
-whole-logs bs (row ∷ rows) h = λ i. whole-log bs row (h 0) i ∷ whole-logs bs rows (λ t. h (suc t)) i
-
-held-is : (bs : List ℕ) (k : Contents) (ts : List ℕ) (logs : List Log) → Within (length bs) k → ts ≡ arrivals_of bs k.count → logs ≡ map log_for k.rows → held bs k ≡ bundle_meaning k.counts bs logs ts 0
+held-is : (bs : List ℕ) (k : Contents) (ts : List ℕ) (logs : List (Bor (List ℕ))) → Within (length bs) k → ts ≡ arrivals_of bs k.count → map bytes_of logs ≡ map (log_bytes bs) k.rows → held bs k ≡ bundle_meaning k.counts logs ts 0
 held-is bs k ts logs w e l =
     let c = range_same k.counts w.in_range in
-    let all = sym (whole-logs bs k.rows w.logs_within) ∙ ap (map (slots_left bs)) (sym l) in
+    let all = sym (whole-logs bs k.rows logs l w.logs_within) in
     λ i. delivering (sym c i) 0 (read_as_arriving (sym c i) (all i) (sym e i))
 
 -- what the test of the arrival list answers, tells what the bytes mean

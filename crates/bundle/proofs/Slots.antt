@@ -1,48 +1,56 @@
 -- What is left of a log, and one step of the logs together.
-use Rattle.std.proofs.Common.{◌≡◌, ℕ, suc, ◌+◌, ◌-◌, ◌/◌, ◌<◌, ◌≤◌, min, List, [], ◌∷◌, map, length, get_or, take, drop, set, Some, None, Ok, Err, Option, Result, sym, refl, ap, ◌∙◌, subst, arith}
-use Rattle.std.proofs.lemmas.List.FromFn.{fill_by_all}
-use Rattle.std.proofs.lemmas.List.{drop-drop, drop_more, map-set}
+use Rattle.std.proofs.Common.{◌≡◌, ℕ, zero, suc, ◌+◌, ◌-◌, ◌*◌, ◌/◌, ◌<◌, ◌≤◌, min, List, [], ◌∷◌, map, length, get_or, take, drop, set, Some, Ok, Err, Result, sym, refl, ap, ◌∙◌, subst, ⊎_elim, arith, take-add}
+use Rattle.std.specs.Borrow.{Bor}
+use Rattle.std.proofs.lemmas.List.{drop_more, drop_all, take_all, take_min, take_at, drop-take, length-drop, length-take-le, get_or-map, map-set}
+use Rattle.std.proofs.lemmas.Bool.{cases_lt}
 use Rattle.record.specs.declared.kinds.Counts.{Counts}
 use Rattle.record.specs.declared.kinds.Record.{Record}
 use Rattle.record.specs.declared.causes.Cause.{Cause}
 use Rattle.record.specs.Reading.{decoded}
 use Rattle.feed.specs.Meaning.{Asked}
 use Rattle.feed.specs.Delivery.{delivering}
-use Rattle.trace_file.specs.Layout.{twelves, slot_at}
+use Rattle.trace_file.specs.Layout.{twelves}
 use Rattle.trace_file.specs.Opening.{in_range}
-use Rattle.trace_file.proofs.Twelves.{slot-told, slot-none, slot-rest}
+use Rattle.trace_file.proofs.Twelves.{twelves-more}
 use Rattle.bundle.specs.declared.layout.Row.{Row}
-use Rattle.bundle.specs.declared.logs.Log.{Log}
+use Rattle.bundle.specs.Layout.{slots_of}
 use Rattle.bundle.specs.Arrivals.{next_of, arriving}
-use Rattle.bundle.specs.Contents.{row_at}
-use Rattle.bundle.specs.Reading.{read_in_log, read_as_arriving, log_for, passed, log_at, slots_left}
-use Rattle.bundle.specs.Peeking.{First, FirstIn, Peeked}
+use Rattle.bundle.specs.Reading.{read_in_log, read_as_arriving, log_bytes, slots_left}
+use Rattle.bundle.specs.Peeking.{Peeked}
 
 -- One log -------------------------------------------------------------------------------------------------------------
 
-slots-more : (bs : List ℕ) (log : Log) → 0 < log.left → log.at + 12 ≤ length bs → slots_left bs log ≡ take 12 (drop log.at bs) ∷ slots_left bs (passed log)
-slots-more bs log h l =
-    let e : min log.left ((length bs - log.at) / 12) ≡ suc (min (log.left - 1) ((length bs - (log.at + 12)) / 12)) = omega arith in
-    ap (λ n. twelves n (drop log.at bs)) e ∙ ap (λ r. take 12 (drop log.at bs) ∷ twelves (min (log.left - 1) ((length bs - (log.at + 12)) / 12)) r) (drop-drop 12 log.at bs)
+-- so many bytes from a place on, where both are held to the bytes' end
+pub held-to-end : (bs : List ℕ) (o n s e : ℕ) → s ≡ min (length bs) o → e ≡ min (length bs) (s + n) → take (e - s) (drop s bs) ≡ take n (drop o bs)
+held-to-end bs o n s e p q =
+    ⊎_elim
+    (λ (h : length bs < o).
+    let a : drop s bs ≡ [] = drop_all s bs (omega arith) in
+    let b : drop o bs ≡ [] = drop_all o bs (omega arith) in
+    ap (take (e - s)) a ∙ (take_all (e - s) [] (omega arith) ∙ (sym (take_all n [] (omega arith)) ∙ ap (take n) (sym b))))
+    (λ (h : o ≤ length bs).
+    let l = length-drop o bs in
+    let same : s ≡ o = omega arith in
+    let few : e - s ≡ min n (length (drop o bs)) = omega arith in
+    (λ i. take (few i) (drop (same i) bs)) ∙ take_min n (drop o bs))
+    (cases_lt (length bs) o)
 
-slots-none : (bs : List ℕ) (log : Log) → length bs < log.at + 12 → slots_left bs log ≡ []
-slots-none bs log h = let e : min log.left ((length bs - log.at) / 12) ≡ 0 = omega arith in ap (λ n. twelves n (drop log.at bs)) e
+twelves-front : (n : ℕ) (l : List ℕ) → 12 * n ≤ length l → twelves n (take (12 * n) l) ≡ twelves n l
+twelves-front zero l h = refl
+twelves-front (suc n) l h =
+    let m : 12 * suc n ≡ 12 + 12 * n = omega arith in
+    let d = length-drop 12 l in
+    let front : take 12 (take (12 + 12 * n) l) ≡ take 12 l = ap (take 12) (take-add 12 (12 * n) l) ∙ take_at (take 12 l) (take (12 * n) (drop 12 l)) 12 (length-take-le 12 l (omega arith)) in
+    ap (λ k. twelves (suc n) (take k l)) m
+    ∙ (λ i. front i ∷ (ap (twelves n) (drop-take 12 (12 * n) l) ∙ twelves-front n (drop 12 l) (omega arith)) i)
 
-first_on : (bs : List ℕ) (log : Log) (r : Option (List ℕ)) → (log.left ≡ 0 → ⊥) → r ≡ slot_at bs log.at → First bs log r
-first_on bs log None some e = slots-none bs log (slot-none bs log.at e)
-first_on bs log (Some slot) some e =
-    let h = slot-told bs log.at slot e in
-    let l : 0 < log.left = omega arith in
-    ((l, h.0), slots-more bs log l h.0 ∙ ap (λ s. s ∷ slots_left bs (passed log)) (sym h.1))
-
-pub first_said : (bs : List ℕ) (log : Log) (r : Option (List ℕ)) → (log.left ≡ 0 → ⊥) → log.at ≤ length bs → r ≡ slot_at (take (length bs - log.at) (drop log.at bs)) 0 → First bs log r
-first_said bs log r some h e = first_on bs log r some (e ∙ slot-rest bs log.at h)
-
--- The logs together ---------------------------------------------------------------------------------------------------
-
-pub all-unread : (rows : List Row) (logs : List Log) → length rows ≡ 8 → length logs ≡ 8 → ((k : ℕ) → k < 8 → log_at logs k ≡ log_for (row_at rows k)) → logs ≡ map log_for rows
-all-unread rows logs l n h =
-    fill_by_all (λ k. log_for (row_at rows k)) logs 8 (record { at = 0; left = 0 }) n h ∙ ap (map log_for) (sym (fill_by_all (λ k. row_at rows k) rows 8 (record { offset = 0; count = 0 }) l (λ k b. refl)))
+-- where a log stands within the bytes, all of it is left
+pub whole-log : (bs : List ℕ) (row : Row) → row.offset + 12 * row.count ≤ length bs → twelves (length (log_bytes bs row) / 12) (log_bytes bs row) ≡ slots_of bs row
+whole-log bs row h =
+    let d = length-drop row.offset bs in
+    let l = length-take-le (12 * row.count) (drop row.offset bs) (omega arith) in
+    let e : length (log_bytes bs row) / 12 ≡ row.count = omega arith in
+    ap (λ n. twelves n (log_bytes bs row)) e ∙ twelves-front row.count (drop row.offset bs) (omega arith)
 
 -- One record ----------------------------------------------------------------------------------------------------------
 
@@ -50,21 +58,27 @@ all-unread rows logs l n h =
 entry : (c : Counts) (logs : List (List (List ℕ))) (ts : List ℕ) (at t : ℕ) → at < length ts → t ≡ get_or ts at 0 → read_as_arriving c logs (drop at ts) ≡ map (read_in_log c) (next_of t (get_or logs t []) (λ slots. arriving (set logs t slots) (drop (at + 1) ts)))
 entry c logs ts at t h e = ap (read_as_arriving c logs) (drop_more ts at 0 h) ∙ ap (λ u. read_as_arriving c logs (u ∷ drop (at + 1) ts)) (sym e)
 
--- what waits is the record at hand and what the logs hold behind it
-behind : (c : Counts) (bs : List ℕ) (logs : List Log) (ts : List ℕ) (at t : ℕ) (slot : List ℕ) → at < length ts → t ≡ get_or ts at 0 → get_or (map (slots_left bs) logs) t [] ≡ slot ∷ slots_left bs (passed (log_at logs t))
-    → read_as_arriving c (map (slots_left bs) logs) (drop at ts) ≡ decoded c (Some t) slot ∷ read_as_arriving c (map (slots_left bs) (set logs t (passed (log_at logs t)))) (drop (at + 1) ts)
-behind c bs logs ts at t slot h e n =
-    let all = map (slots_left bs) logs in
-    entry c all ts at t h e
-    ∙ (ap (λ s. map (read_in_log c) (next_of t s (λ slots. arriving (set all t slots) (drop (at + 1) ts)))) n
-    ∙ ap (λ l. decoded c (Some t) slot ∷ read_as_arriving c l (drop (at + 1) ts)) (sym (map-set (slots_left bs) logs t (passed (log_at logs t)))))
+-- what is left of the entry's log
+left : (logs : List (Bor (List ℕ))) (t : ℕ) (log : Bor (List ℕ)) → t < length logs → log ≡ get_or logs t log → get_or (map slots_left logs) t [] ≡ slots_left log
+left logs t log h g = get_or-map slots_left logs t log [] h ∙ ap slots_left (sym g)
 
-pub peeked : (c : Counts) (bs : List ℕ) (logs : List Log) (ts : List ℕ) (at t : ℕ) (slot : List ℕ) (r : Result Record Cause) → at < length ts → t ≡ get_or ts at 0 → FirstIn bs logs t (Some slot) → r ≡ read_in_log (in_range c) (get_or ts at 0, slot) → Peeked c bs logs ts at (Some (t, r))
-peeked c bs logs ts at t slot (Ok x) h e n d =
-    let rest = read_as_arriving (in_range c) (map (slots_left bs) (set logs t (passed (log_at logs t)))) (drop (at + 1) ts) in
-    let told : read_as_arriving (in_range c) (map (slots_left bs) logs) (drop at ts) ≡ Ok x ∷ rest = behind (in_range c) bs logs ts at t slot h e n.2 ∙ ap (λ y. y ∷ rest) (ap (λ u. read_in_log (in_range c) (u, slot)) e ∙ sym d) in
-    (n.0, n.1, h, subst (λ l. Asked (delivering (in_range c) at l) (Ok (Some x)) (delivering (in_range c) (at + 1) rest)) (sym told) (refl, refl, refl))
-peeked c bs logs ts at t slot (Err cause) h e n d =
-    let rest = read_as_arriving (in_range c) (map (slots_left bs) (set logs t (passed (log_at logs t)))) (drop (at + 1) ts) in
-    let told : read_as_arriving (in_range c) (map (slots_left bs) logs) (drop at ts) ≡ Err cause ∷ rest = behind (in_range c) bs logs ts at t slot h e n.2 ∙ ap (λ y. y ∷ rest) (ap (λ u. read_in_log (in_range c) (u, slot)) e ∙ sym d) in
-    subst (λ l. Asked (delivering (in_range c) at l) (Err (record { cause = cause; place = at; depth = 0 })) (delivering (in_range c) at l)) (sym told) (refl, refl, refl)
+-- what waits is the record at hand and what the logs hold behind it
+behind : (c : Counts) (logs : List (Bor (List ℕ))) (ts : List ℕ) (at t : ℕ) (log rest : Bor (List ℕ)) (slot : List ℕ) → at < length ts → t ≡ get_or ts at 0 → t < length logs → log ≡ get_or logs t log → 12 ≤ length log.now → slot ≡ take 12 log.now → rest.now ≡ drop 12 log.now
+    → read_as_arriving c (map slots_left logs) (drop at ts) ≡ decoded c (Some t) slot ∷ read_as_arriving c (map slots_left (set logs t rest)) (drop (at + 1) ts)
+behind c logs ts at t log rest slot h e l g long s r =
+    let all = map slots_left logs in
+    let n : get_or all t [] ≡ slot ∷ slots_left rest = left logs t log l g ∙ (twelves-more log.now long ∙ (λ i. sym s i ∷ twelves (length (sym r i) / 12) (sym r i))) in
+    entry c all ts at t h e
+    ∙ (ap (λ w. map (read_in_log c) (next_of t w (λ slots. arriving (set all t slots) (drop (at + 1) ts)))) n
+    ∙ ap (λ w. decoded c (Some t) slot ∷ read_as_arriving c w (drop (at + 1) ts)) (sym (map-set slots_left logs t rest)))
+
+pub peeked : (c : Counts) (logs : List (Bor (List ℕ))) (ts : List ℕ) (at t : ℕ) (log rest : Bor (List ℕ)) (slot : List ℕ) (r : Result Record Cause) → t < 8 → at < length ts → t ≡ get_or ts at 0 → t < length logs → log ≡ get_or logs t log → 12 ≤ length log.now → slot ≡ take 12 log.now → rest.now ≡ drop 12 log.now → r ≡ read_in_log (in_range c) (t, slot)
+    → Peeked c logs ts at (Some (t, r, rest))
+peeked c logs ts at t log rest slot (Ok x) few h e l g long s r d =
+    let later = read_as_arriving (in_range c) (map slots_left (set logs t rest)) (drop (at + 1) ts) in
+    let told : read_as_arriving (in_range c) (map slots_left logs) (drop at ts) ≡ Ok x ∷ later = behind (in_range c) logs ts at t log rest slot h e l g long s r ∙ ap (λ y. y ∷ later) (sym d) in
+    (few, h, subst (λ w. Asked (delivering (in_range c) at w) (Ok (Some x)) (delivering (in_range c) (at + 1) later)) (sym told) (refl, refl, refl))
+peeked c logs ts at t log rest slot (Err cause) few h e l g long s r d =
+    let later = read_as_arriving (in_range c) (map slots_left (set logs t rest)) (drop (at + 1) ts) in
+    let told : read_as_arriving (in_range c) (map slots_left logs) (drop at ts) ≡ Err cause ∷ later = behind (in_range c) logs ts at t log rest slot h e l g long s r ∙ ap (λ y. y ∷ later) (sym d) in
+    subst (λ w. Asked (delivering (in_range c) at w) (Err (record { cause = cause; place = at; depth = 0 })) (delivering (in_range c) at w)) (sym told) (refl, refl, refl)

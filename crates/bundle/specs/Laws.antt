@@ -9,11 +9,11 @@ use Rattle.record.specs.Reading.{decoded}
 use Rattle.record.specs.WellMade.{thread_of}
 use Rattle.model.specs.Events.{records_of}
 use Rattle.feed.specs.Meaning.{Meaning}
-use Rattle.bundle.specs.declared.logs.Log.{Log}
+use Rattle.std.specs.Borrow.{Bor}
 use Rattle.bundle.specs.declared.testing.Contents.{Contents}
 use Rattle.bundle.specs.Layout.{rows_of, header_of, slots_of}
 use Rattle.bundle.specs.Contents.{row_at}
-use Rattle.bundle.specs.Reading.{log_for, bundle_meaning}
+use Rattle.bundle.specs.Reading.{log_bytes, bytes_of, bundle_meaning}
 use Rattle.bundle.specs.Opening.{arrivals_of, opened}
 
 -- the arrival list of the bytes
@@ -44,5 +44,5 @@ LogsInOrder = (bs : List ℕ) (m : Meaning) → opened bs ≡ Ok m → InOrder b
 -- The bytes open, and mean, in that order, what the logs and the arrival list mean to one who has read nothing of them.
 abbrev pub OpensAs : List ℕ → Contents → Type 0
 OpensAs bs k =
-    (ts : List ℕ) (logs : List Log) → ts ≡ arrivals_of bs k.count → logs ≡ map log_for k.rows
-    → (opened bs ≡ Ok (bundle_meaning k.counts bs logs ts 0)) × InOrder bs (bundle_meaning k.counts bs logs ts 0)
+    (ts : List ℕ) (logs : List (Bor (List ℕ))) → ts ≡ arrivals_of bs k.count → map bytes_of logs ≡ map (log_bytes bs) k.rows
+    → (opened bs ≡ Ok (bundle_meaning k.counts logs ts 0)) × InOrder bs (bundle_meaning k.counts logs ts 0)

@@ -9,7 +9,7 @@ use Rattle.feed.specs.Pile.{FoundHere}
 use Rattle.feed.specs.Delivery.{ReadWellMade, delivering-sound, delivering-found}
 use Rattle.trace_file.specs.Opening.{in_range}
 use Rattle.trace_file.specs.Sound.{counts_in_range}
-use Rattle.bundle.specs.declared.logs.Log.{Log}
+use Rattle.std.specs.Borrow.{Bor}
 use Rattle.bundle.specs.Arrivals.{arriving}
 use Rattle.bundle.specs.Reading.{read_in_log, read_as_arriving, slots_left, bundle_meaning}
 
@@ -21,8 +21,8 @@ all_well_made : (c : Counts) (slots : List (ℕ × List ℕ)) → ReadWellMade c
 all_well_made c [] = tt
 all_well_made c (slot ∷ slots) = one-well-made c slot (map (read_in_log c) slots) (read_in_log c slot) refl (all_well_made c slots)
 
-pub bundle_sound : (c : Counts) (bs : List ℕ) (logs : List Log) (ts : List ℕ) (at : ℕ) → WellMade (bundle_meaning c bs logs ts at)
-bundle_sound c bs logs ts at = delivering-sound (in_range c) at (read_as_arriving (in_range c) (map (slots_left bs) logs) (drop at ts)) (counts_in_range c) (all_well_made (in_range c) (arriving (map (slots_left bs) logs) (drop at ts)))
+pub bundle_sound : (c : Counts) (logs : List (Bor (List ℕ))) (ts : List ℕ) (at : ℕ) → WellMade (bundle_meaning c logs ts at)
+bundle_sound c logs ts at = delivering-sound (in_range c) at (read_as_arriving (in_range c) (map slots_left logs) (drop at ts)) (counts_in_range c) (all_well_made (in_range c) (arriving (map slots_left logs) (drop at ts)))
 
-pub bundle_found : (c : Counts) (bs : List ℕ) (logs : List Log) (ts : List ℕ) (at : ℕ) → FoundHere (bundle_meaning c bs logs ts at).ending
-bundle_found c bs logs ts at = delivering-found at (read_as_arriving (in_range c) (map (slots_left bs) logs) (drop at ts))
+pub bundle_found : (c : Counts) (logs : List (Bor (List ℕ))) (ts : List ℕ) (at : ℕ) → FoundHere (bundle_meaning c logs ts at).ending
+bundle_found c logs ts at = delivering-found at (read_as_arriving (in_range c) (map slots_left logs) (drop at ts))

@@ -10,6 +10,7 @@ fn tally(arrivals: &[u8], threads: u8) -> Option<[usize; 8]>
     requires { threads ≤ 8 }
     ensures { result ≡ (if names_only threads arrivals.now then Some (tallied arrivals.now) else None) }
 {
+    // A loop, since the first entry that names no such thread ends the count.
     let mut named = [0; 8];
     for thread in arrivals {
         if *thread >= threads {

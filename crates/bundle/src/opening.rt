@@ -47,8 +47,7 @@ impl<'a> Bundle<'a> {
         let arrivals = arrival_list(bytes, contents.count);
         Ok(Bundle {
             counts: contents.counts,
-            bytes,
-            logs: unread_logs(&contents.rows),
+            logs: unread_logs(bytes, &contents.rows),
             arrivals,
             at: 0,
         })

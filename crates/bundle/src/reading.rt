@@ -7,7 +7,6 @@ ghost use Rattle.bundle.specs.Reading.{read_in_log, bundle_meaning};
 ghost use Rattle.bundle.specs.Peeking.{Peeked};
 ghost use Rattle.bundle.specs.Sound.{bundle_sound, bundle_found};
 
-use crate::logs::{Log, next_of};
 use feed::Feed;
 use record::{Cause, Counts, Damage, Record};
 use trace_file::in_range;
@@ -16,16 +15,15 @@ use trace_file::in_range;
 #[derive(Drop)]
 pub struct Bundle<'a> {
     pub(crate) counts: Counts,
-    pub(crate) bytes: &'a [u8],
     /// What is left of each thread's log.
-    pub(crate) logs: [Log; 8],
+    pub(crate) logs: [&'a [u8]; 8],
     /// The threads, in the order in which their records arrived.
     pub(crate) arrivals: &'a [u8],
     /// How many of them were delivered.
     pub(crate) at: usize,
 }
 
-impl Bundle<'_> {
+impl<'a> Bundle<'a> {
     /// What twelve bytes of a thread's log are read as.
     fn read_in_log(&self, slot: &[u8; 12], thread: u8) -> Result<Record, Cause>
         ensures { result ≡ read_in_log (in_range self.now.counts) (thread, slot.now) }
@@ -33,25 +31,25 @@ impl Bundle<'_> {
         Record::decode(slot, self.counts(), Some(thread))
     }
 
-    /// What the next record to arrive is read as, with its thread, if there is one.
-    fn peek(&self) -> Option<(usize, Result<Record, Cause>)>
-        ensures { Peeked self.now.counts self.now.bytes.now self.now.logs self.now.arrivals.now self.now.at result }
+    /// What the next record to arrive is read as, with its thread and what its log has behind it, if there is one.
+    fn peek(&self) -> Option<(usize, Result<Record, Cause>, &'a [u8])>
+        ensures { Peeked self.now.counts self.now.logs self.now.arrivals.now self.now.at result }
     {
         let thread = *self.arrivals.get(self.at)?;
         let log = usize::from(thread);
-        let slot = next_of(&self.logs, log, self.bytes)?;
-        Some((log, self.read_in_log(&slot, thread)))
+        let (slot, rest) = self.logs.get(log)?.split_first_chunk()?;
+        Some((log, self.read_in_log(slot, thread), rest))
     }
 }
 
 impl Feed for Bundle<'_> {
-    ghost meaning = { λ s. bundle_meaning s.counts s.bytes.now s.logs s.arrivals.now s.at };
+    ghost meaning = { λ s. bundle_meaning s.counts s.logs s.arrivals.now s.at };
 
-    ghost pile = { λ s. bottom (bundle_meaning s.counts s.bytes.now s.logs s.arrivals.now s.at) };
+    ghost pile = { λ s. bottom (bundle_meaning s.counts s.logs s.arrivals.now s.at) };
 
     ghost unread = { λ _. Unit {0} };
 
-    ghost laws = { record { sound = λ s. bundle_sound s.counts s.bytes.now s.logs s.arrivals.now s.at; proper = λ s _. (bundle_sound s.counts s.bytes.now s.logs s.arrivals.now s.at, bundle_found s.counts s.bytes.now s.logs s.arrivals.now s.at); opens = λ s _. refl } };
+    ghost laws = { record { sound = λ s. bundle_sound s.counts s.logs s.arrivals.now s.at; proper = λ s _. (bundle_sound s.counts s.logs s.arrivals.now s.at, bundle_found s.counts s.logs s.arrivals.now s.at); opens = λ s _. refl } };
 
     fn counts(&self) -> Counts {
         in_range(self.counts)
@@ -60,12 +58,12 @@ impl Feed for Bundle<'_> {
     fn next(&mut self) -> Result<Option<Record>, Damage> {
         match self.peek() {
             None => Ok(None),
-            Some((thread, Ok(record))) => {
-                self.logs[thread].pass();
+            Some((thread, Ok(record), rest)) => {
+                self.logs[thread] = rest;
                 self.at += 1;
                 Ok(Some(record))
             }
-            Some((_thread, Err(cause))) => Err(Damage {
+            Some((_, Err(cause), _)) => Err(Damage {
                 cause,
                 place: self.at,
                 depth: 0,

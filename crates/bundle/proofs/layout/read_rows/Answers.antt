@@ -2,7 +2,7 @@ use Rattle.std.proofs.Common.{rules, arith}
 use Rattle.std.proofs.lemmas.List.FromFn.{fill_by_all}
 use Rattle.bundle.specs.declared.layout.Row.{Row}
 use Rattle.bundle.specs.Layout.{row_of}
-use Rattle.bundle.proofs.FromFn.{from_fn-at}
+use Rattle.bundle.proofs.Arrays.{from_fn-at}
 use Rattle.bundle.proofs.layout.read_rows.Goals as goal
 
 pub returns : goal.returns
