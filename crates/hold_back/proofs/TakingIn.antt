@@ -1,5 +1,5 @@
 -- What holding back makes of one more record.
-use Rattle.std.proofs.Common.{◌≡◌, ℕ, suc, ◌<◌, ◌≤◌, true, false, cond, List, [], ◌∷◌, ◌++◌, length, Some, None, Option, sym, refl, ap, ◌∙◌, arith, length-append, le-ltb, lt-ltb, eq-eqb, ne_eqb}
+use Rattle.std.proofs.Common.{◌≡◌, ℕ, suc, ◌<◌, ◌≤◌, cond, List, [], ◌∷◌, ◌++◌, length, None, Option, sym, refl, ap, ◌∙◌, arith, length-append, le-ltb, lt-ltb, eq-eqb}
 use Rattle.record.specs.declared.kinds.Record.{Record}
 use Rattle.record.specs.WellMade.{thread_of}
 use Rattle.model.specs.HoldBack.{hindered, stalled, spilled, held_back}
@@ -8,9 +8,6 @@ use Rattle.hold_back.specs.Holding.{released}
 module _ (h d : ℕ) (held : List Record) (x : Record) where
   of-h : (xs : List Record) → thread_of x ≡ h → held_back h d held (x ∷ xs) ≡ spilled d (held ++ (x ∷ [])) (λ more. held_back h d more xs)
   of-h xs e = ap (λ b. cond b (spilled d (held ++ (x ∷ [])) (λ more. held_back h d more xs)) (cond (hindered held x) (stalled held x (held_back h d [] xs)) (x ∷ held_back h d held xs))) (eq-eqb (thread_of x) h e)
-
-  not-of-h : (xs : List Record) → (thread_of x ≡ h → ⊥) → held_back h d held (x ∷ xs) ≡ cond (hindered held x) (stalled held x (held_back h d [] xs)) (x ∷ held_back h d held xs)
-  not-of-h xs e = ap (λ b. cond b (spilled d (held ++ (x ∷ [])) (λ more. held_back h d more xs)) (cond (hindered held x) (stalled held x (held_back h d [] xs)) (x ∷ held_back h d held xs))) (ne_eqb (thread_of x) h e)
 
   spill-none : (all xs : List Record) → length all ≤ d → spilled d all (λ more. held_back h d more xs) ≡ held_back h d all xs
   spill-none [] xs l = refl
@@ -24,12 +21,6 @@ module _ (h d : ℕ) (held : List Record) (x : Record) where
 
   pub spills : (rest : List Record) (st : Option Record) (y : Record) → held ++ (x ∷ []) ≡ y ∷ rest → st ≡ None → thread_of x ≡ h → d ≤ length held → (xs : List Record) → held_back h d held (x ∷ xs) ≡ y ∷ released h d rest st xs
   spills rest st y q s e l xs = of-h xs e ∙ (spill-first (held ++ (x ∷ [])) rest xs y q (omega (arith, length-append held (x ∷ []))) ∙ ap (λ o. y ∷ released h d rest o xs) (sym s))
-
-  pub stalls : (rest : List Record) (st : Option Record) (y : Record) → (thread_of x ≡ h → ⊥) → hindered held x ≡ true → ((xs : List Record) → released h d held (Some x) xs ≡ y ∷ released h d rest st xs) → (xs : List Record) → held_back h d held (x ∷ xs) ≡ y ∷ released h d rest st xs
-  stalls rest st y e t q xs = not-of-h xs e ∙ (ap (λ b. cond b (stalled held x (held_back h d [] xs)) (x ∷ held_back h d held xs)) t ∙ q xs)
-
-  pub passes : (st : Option Record) → st ≡ None → (thread_of x ≡ h → ⊥) → hindered held x ≡ false → (xs : List Record) → held_back h d held (x ∷ xs) ≡ x ∷ released h d held st xs
-  passes st s e t xs = not-of-h xs e ∙ (ap (λ b. cond b (stalled held x (held_back h d [] xs)) (x ∷ held_back h d held xs)) t ∙ ap (λ o. x ∷ released h d held o xs) (sym s))
 
   pub one-longer : (more : List Record) → more ≡ held ++ (x ∷ []) → length more ≡ suc (length held)
   one-longer more q = omega (arith, ap length q, length-append held (x ∷ []))

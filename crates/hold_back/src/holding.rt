@@ -23,6 +23,18 @@ pub struct HoldBack<F> {
 }
 
 impl<F: Feed> HoldBack<F> {
+    ghost use Rattle.feed.specs.Alike.{KeepsAlike};
+    ghost use Rattle.feed.specs.PutOn.{PutOn};
+
+    /// The relay on this feed, with this setting; where there is no such thread or the capacity is not 1 to 16, with the records as they come.
+    pub fn put_on(feed: F, hold: Hold) -> HoldBack<F>
+        ensures put_on { PutOn ⟦<HoldBack<F> as Feed>⟧ F.Feed (holds_back hold.thread hold.capacity) feed result }
+        ensures alike { KeepsAlike (holds_back hold.thread hold.capacity) }
+    {
+        let held = Held::nothing(feed.counts());
+        HoldBack { feed, hold, held }
+    }
+
     /// The refusal of its settings, or nothing where there is such a thread and the capacity is 1 to 16.
     pub fn shows(&self) -> Option<Refusal>
         ensures { result ≡ shown (F.Feed.meaning self.now.feed).counts (holds_back self.now.hold.thread self.now.hold.capacity) }

@@ -4,9 +4,7 @@
 mod held;
 mod hold;
 mod holding;
-mod keeping;
 mod passing;
-mod putting_on;
 
 pub use hold::Hold;
 pub use holding::HoldBack;

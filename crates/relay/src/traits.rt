@@ -1,7 +1,7 @@
 //! What the setting of a relay promises.
 
 ghost use Rattle.std.specs.Prelude.{◌≡◌, List, map};
-ghost use Rattle.record.specs.declared.kinds.Record.{Record as Rec};
+ghost use Rattle.record.specs.declared.kinds.Record.{Record};
 ghost use Rattle.feed.specs.Pile.{Relay, shown, passed_on, thread_below, ProperRelay};
 ghost use Rattle.relay.specs.Addresses.{ShortAddress};
 
@@ -28,7 +28,7 @@ pub trait Setting {
 /// The setting of a relay that passes each record on under other names.
 pub trait Renames: Setting {
     /// The record under other names.
-    ghost change: { Self → Rec → Rec };
+    ghost change: { Self → Record → Record };
 
     /// The record under other names.
     fn renamed(&self, record: Record) -> Record
@@ -36,5 +36,5 @@ pub trait Renames: Setting {
         ensures { result ≡ change self.now «record» };
 
     /// The relay makes this of every record.
-    ghost each: { (s : Self) (xs : List Rec) → passed_on (Self.relay s) xs ≡ map (change s) xs };
+    ghost each: { (s : Self) (xs : List Record) → passed_on (Self.relay s) xs ≡ map (change s) xs };
 }

@@ -2,7 +2,6 @@
 #![tactic(auto)]
 
 mod entries;
-mod making;
 mod rotation;
 mod table;
 mod traits;
