@@ -47,6 +47,7 @@ impl Threads {
         requires { F.IsAlwaysCallable is_such }
         ensures { (p : ℕ → Bool) → ((thread : _) (answer : Bool) → F.post is_such thread answer → answer ≡ p thread.index) → result ≡ any_below self.count p }
     {
+        // A loop, since the proof of `any` over the range does not close where its closure calls another.
         for index in 0..self.count {
             if is_such(Thread { index }) {
                 return true;
