@@ -1,171 +1,120 @@
 //! The eight published dark corners: behaviour that may surprise and is permitted.
 
-use crate::judged::{case, compliant};
-use crate::records::{X, Y, fence, notify, read, strict_write, wait, write};
-use std::io;
+use crate::judged::Case;
+use crate::records::{X, Y, compliant, fences, notifies, reads, waits, writes, writes_strictly};
 
-/// Judges every dark corner, and returns whether all are right.
-pub fn every_corner(rt: &HostRuntime) -> io::Result<bool> {
-    let mut all = true;
-    all &= relaxed_two_readers(rt)?;
-    all &= relaxed_one_reader(rt)?;
-    all &= strict_two_readers(rt)?;
-    all &= strict_one_reader(rt)?;
-    all &= own_and_remote(rt)?;
-    all &= relaxed_before_a_fence(rt)?;
-    all &= barrier_one_reader(rt)?;
-    all &= barrier_two_readers(rt)?;
-    Ok(all)
-}
-
-/// Two readers see relaxed writes in different orders.
-fn relaxed_two_readers(rt: &HostRuntime) -> io::Result<bool> {
-    case(
-        rt,
-        "relaxed writes may be read in different orders by different threads",
-        compliant(6),
-        3,
-        &[
-            write(0, X, 1),
-            write(0, X, 2),
-            read(1, X, 0, 1),
-            read(1, X, 0, 2),
-            read(2, X, 0, 2),
-            read(2, X, 0, 1),
+/// The corners, all of them permitted.
+pub const DARK_CORNERS: &[Case] = &[
+    Case {
+        title: "relaxed writes may be read in different orders by different threads",
+        asked: compliant!(6),
+        threads: 3,
+        records: &[
+            writes!(0, X, 1),
+            writes!(0, X, 2),
+            reads!(1, X, 0, 1),
+            reads!(1, X, 0, 2),
+            reads!(2, X, 0, 2),
+            reads!(2, X, 0, 1),
         ],
-    )
-}
-
-/// One reader sees relaxed writes in the other order.
-fn relaxed_one_reader(rt: &HostRuntime) -> io::Result<bool> {
-    case(
-        rt,
-        "relaxed writes may be read in different orders by one thread",
-        compliant(5),
-        2,
-        &[
-            write(0, X, 1),
-            write(0, X, 2),
-            read(1, X, 0, 1),
-            read(1, X, 0, 2),
-            read(1, X, 0, 1),
+    },
+    Case {
+        title: "relaxed writes may be read in different orders by one thread",
+        asked: compliant!(5),
+        threads: 2,
+        records: &[
+            writes!(0, X, 1),
+            writes!(0, X, 2),
+            reads!(1, X, 0, 1),
+            reads!(1, X, 0, 2),
+            reads!(1, X, 0, 1),
         ],
-    )
-}
-
-/// Two readers see strict writes of two threads in different orders.
-fn strict_two_readers(rt: &HostRuntime) -> io::Result<bool> {
-    case(
-        rt,
-        "strict writes of two threads may be read in different orders by different threads",
-        compliant(6),
-        4,
-        &[
-            strict_write(0, X, 1),
-            strict_write(1, X, 1),
-            read(2, X, 0, 1),
-            read(2, X, 1, 1),
-            read(3, X, 1, 1),
-            read(3, X, 0, 1),
+    },
+    Case {
+        title: "strict writes of two threads may be read in different orders by different threads",
+        asked: compliant!(6),
+        threads: 4,
+        records: &[
+            writes_strictly!(0, X, 1),
+            writes_strictly!(1, X, 1),
+            reads!(2, X, 0, 1),
+            reads!(2, X, 1, 1),
+            reads!(3, X, 1, 1),
+            reads!(3, X, 0, 1),
         ],
-    )
-}
-
-/// One reader sees strict writes of two threads in the other order.
-fn strict_one_reader(rt: &HostRuntime) -> io::Result<bool> {
-    case(
-        rt,
-        "strict writes of two threads may be read in different orders by one thread",
-        compliant(5),
-        3,
-        &[
-            strict_write(0, X, 1),
-            strict_write(1, X, 1),
-            read(2, X, 0, 1),
-            read(2, X, 1, 1),
-            read(2, X, 0, 1),
+    },
+    Case {
+        title: "strict writes of two threads may be read in different orders by one thread",
+        asked: compliant!(5),
+        threads: 3,
+        records: &[
+            writes_strictly!(0, X, 1),
+            writes_strictly!(1, X, 1),
+            reads!(2, X, 0, 1),
+            reads!(2, X, 1, 1),
+            reads!(2, X, 0, 1),
         ],
-    )
-}
-
-/// A writer sees its own and a remote write in the other order.
-fn own_and_remote(rt: &HostRuntime) -> io::Result<bool> {
-    case(
-        rt,
-        "an own and a remote write may be read in different orders",
-        compliant(5),
-        2,
-        &[
-            write(0, X, 1),
-            write(1, X, 1),
-            read(1, X, 0, 1),
-            read(1, X, 1, 1),
-            read(1, X, 0, 1),
+    },
+    Case {
+        title: "an own and a remote write may be read in different orders",
+        asked: compliant!(5),
+        threads: 2,
+        records: &[
+            writes!(0, X, 1),
+            writes!(1, X, 1),
+            reads!(1, X, 0, 1),
+            reads!(1, X, 1, 1),
+            reads!(1, X, 0, 1),
         ],
-    )
-}
-
-/// Relaxed writes that stand before one fence.
-fn relaxed_before_a_fence(rt: &HostRuntime) -> io::Result<bool> {
-    case(
-        rt,
-        "relaxed writes before a fence may be read in different orders",
-        compliant(8),
-        2,
-        &[
-            write(0, X, 1),
-            write(0, X, 2),
-            fence(0),
-            write(0, Y, 3),
-            read(1, Y, 0, 3),
-            read(1, X, 0, 1),
-            read(1, X, 0, 2),
-            read(1, X, 0, 1),
+    },
+    Case {
+        title: "relaxed writes before a fence may be read in different orders",
+        asked: compliant!(8),
+        threads: 2,
+        records: &[
+            writes!(0, X, 1),
+            writes!(0, X, 2),
+            fences!(0),
+            writes!(0, Y, 3),
+            reads!(1, Y, 0, 3),
+            reads!(1, X, 0, 1),
+            reads!(1, X, 0, 2),
+            reads!(1, X, 0, 1),
         ],
-    )
-}
-
-/// One reader of relaxed writes that stand before a barrier.
-fn barrier_one_reader(rt: &HostRuntime) -> io::Result<bool> {
-    case(
-        rt,
-        "relaxed writes before a barrier may be read in different orders by one thread",
-        compliant(9),
-        2,
-        &[
-            write(0, X, 1),
-            write(0, X, 2),
-            notify(0, 5),
-            notify(1, 5),
-            wait(0, 5),
-            wait(1, 5),
-            read(1, X, 0, 1),
-            read(1, X, 0, 2),
-            read(1, X, 0, 1),
+    },
+    Case {
+        title: "relaxed writes before a barrier may be read in different orders by one thread",
+        asked: compliant!(9),
+        threads: 2,
+        records: &[
+            writes!(0, X, 1),
+            writes!(0, X, 2),
+            notifies!(0, 5),
+            notifies!(1, 5),
+            waits!(0, 5),
+            waits!(1, 5),
+            reads!(1, X, 0, 1),
+            reads!(1, X, 0, 2),
+            reads!(1, X, 0, 1),
         ],
-    )
-}
-
-/// Two readers of relaxed writes that stand before a barrier.
-fn barrier_two_readers(rt: &HostRuntime) -> io::Result<bool> {
-    case(
-        rt,
-        "relaxed writes before a barrier may be read in different orders by different threads",
-        compliant(12),
-        3,
-        &[
-            write(0, X, 1),
-            write(0, X, 2),
-            notify(0, 5),
-            notify(1, 5),
-            notify(2, 5),
-            wait(0, 5),
-            wait(1, 5),
-            wait(2, 5),
-            read(1, X, 0, 1),
-            read(1, X, 0, 2),
-            read(2, X, 0, 2),
-            read(2, X, 0, 1),
+    },
+    Case {
+        title: "relaxed writes before a barrier may be read in different orders by different threads",
+        asked: compliant!(12),
+        threads: 3,
+        records: &[
+            writes!(0, X, 1),
+            writes!(0, X, 2),
+            notifies!(0, 5),
+            notifies!(1, 5),
+            notifies!(2, 5),
+            waits!(0, 5),
+            waits!(1, 5),
+            waits!(2, 5),
+            reads!(1, X, 0, 1),
+            reads!(1, X, 0, 2),
+            reads!(2, X, 0, 2),
+            reads!(2, X, 0, 1),
         ],
-    )
-}
+    },
+];

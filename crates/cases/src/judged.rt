@@ -1,34 +1,24 @@
-//! One case: its trace is written as a trace file, judged, and held to what the case demands.
+//! The cases: the trace of each is written as a trace file, judged, and held to what the case demands.
 
 ghost use Rattle.std.specs.Prelude.{◌≡◌, length, IfOk, Ok, Decides};
+ghost use Rattle.std.specs.List.{All};
 ghost use Rattle.trace_file.specs.Writing.{begun};
 ghost use Rattle.trace_file.specs.Laws.{all_appended, ReadAgain};
-ghost use Rattle.judging.specs.declared.lines.Line.TheVariants.{Compliant, Unlawful};
-ghost use Rattle.cases.specs.Judged.{Fitting, case_line};
+ghost use Rattle.cases.specs.Judged.{Fitting, case_line, CaseFits, IsRight};
 
 use feed::Refusal;
 use judging::{Line, judge_file};
-use model::Reason;
 use record::{Counts, Record};
 use std::io;
 use trace_file::{append, begin};
 
-/// The line of a compliant trace of so many records.
-pub fn compliant(taken: usize) -> Line
-    ensures { result ≡ Compliant taken }
-{
-    Line::Compliant { taken }
-}
-
-/// The line of an unlawful trace.
-pub fn unlawful(thread: u8, index: usize, reason: Reason) -> Line
-    ensures { result ≡ Unlawful thread index reason }
-{
-    Line::Unlawful {
-        thread,
-        index,
-        reason,
-    }
+/// A trace over two addresses, and the line that the judge is to say of it.
+#[derive(Clone, Copy)]
+pub struct Case<'a> {
+    pub title: &'a str,
+    pub asked: Line,
+    pub threads: u8,
+    pub records: &'a [Record],
 }
 
 /// Writes a trace of the records into the buffer.
@@ -60,19 +50,30 @@ fn judged(threads: u8, records: &[Record]) -> Line
     }
 }
 
-/// Judges a trace and prints a line: what it shows, what is asked, what the judge says, and whether that is right, which is returned.
-pub fn case(
-    rt: &HostRuntime,
-    title: &str,
-    asked: Line,
-    threads: u8,
-    records: &[Record],
-) -> io::Result<bool>
-    ensures { IfOk result (λ right. (Fitting threads records.now → Decides right (case_line threads records.now ≡ asked))) }
+/// Judges a case and prints a line: what it shows, what is asked, what the judge says, and whether that is right, which is returned.
+pub fn judge_case(rt: &HostRuntime, case: &Case<'_>) -> io::Result<bool>
+    ensures { IfOk result (λ right. (CaseFits case.now → Decides right (IsRight case.now))) }
 {
+    let Case {
+        title,
+        asked,
+        threads,
+        records,
+    } = *case;
     let line = judged(threads, records);
     let right = line == asked;
     let word = if right { "right" } else { "WRONG" };
     println!(rt; "{title}: asked {asked}, judged {line}, {word}")?;
     Ok(right)
+}
+
+/// Judges the cases one by one, and returns whether the judge is right on all.
+pub fn judge_cases(rt: &HostRuntime, cases: &[Case<'_>]) -> io::Result<bool>
+    ensures { IfOk result (λ right. (All CaseFits cases.now → Decides right (All IsRight cases.now))) }
+{
+    let mut all = true;
+    for case in cases {
+        all &= judge_case(rt, case)?;
+    }
+    Ok(all)
 }

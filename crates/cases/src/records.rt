@@ -1,95 +1,130 @@
-//! Short names for the records that the cases are written with. A write stores its own number.
-
-ghost use Rattle.std.specs.Prelude.{◌≡◌};
-ghost use Rattle.record.specs.declared.kinds.Mode.TheVariants.{Relaxed, Strict};
-ghost use Rattle.record.specs.declared.kinds.Source.TheVariants.{Initial, Write as WriteOf};
-ghost use Rattle.record.specs.declared.kinds.Record.TheVariants.{Write, Read, Fence, Notify, Wait};
-
-use record::{
-    FenceRecord, Mode, NotifyRecord, ReadRecord, Record, Source, WaitRecord, WriteRecord,
-};
+//! Short names for the records and lines that the cases are written with. A write stores its own number.
+//!
+//! They are macros, since no constant may call a function.
 
 /// The two addresses.
 pub const X: u16 = 0;
 
 pub const Y: u16 = 1;
 
-fn wrote(thread: u8, address: u16, number: u16, mode: Mode) -> Record
-    ensures { result ≡ Write (record { thread = thread; address = address; mode = mode; value = number }) }
-{
-    Record::Write(WriteRecord {
-        thread,
-        address,
-        mode,
-        value: u32::from(number),
-    })
+/// The line of a compliant trace of so many records.
+macro_rules! compliant {
+    ($taken:expr) => {
+        judging::Line::Compliant { taken: $taken }
+    };
 }
 
-fn got(thread: u8, address: u16, source: Source, mode: Mode, value: u32) -> Record
-    ensures { result ≡ Read (record { thread = thread; address = address; source = source; mode = mode; value = value }) }
-{
-    Record::Read(ReadRecord {
-        thread,
-        address,
-        source,
-        mode,
-        value,
-    })
+/// The line of an unlawful trace.
+macro_rules! unlawful {
+    ($thread:expr, $index:expr, $reason:ident) => {
+        judging::Line::Unlawful {
+            thread: $thread,
+            index: $index,
+            reason: model::Reason::$reason,
+        }
+    };
+}
+
+macro_rules! wrote {
+    ($thread:expr, $address:expr, $number:expr, $mode:ident) => {
+        record::Record::Write(record::WriteRecord {
+            thread: $thread,
+            address: $address,
+            mode: record::Mode::$mode,
+            value: $number,
+        })
+    };
+}
+
+macro_rules! got {
+    ($thread:expr, $address:expr, $source:expr, $mode:ident, $value:expr) => {
+        record::Record::Read(record::ReadRecord {
+            thread: $thread,
+            address: $address,
+            source: $source,
+            mode: record::Mode::$mode,
+            value: $value,
+        })
+    };
 }
 
 /// The thread's relaxed write with this number.
-pub fn write(thread: u8, address: u16, number: u16) -> Record
-    ensures { result ≡ Write (record { thread = thread; address = address; mode = Relaxed; value = number }) }
-{
-    wrote(thread, address, number, Mode::Relaxed)
+macro_rules! writes {
+    ($thread:expr, $address:expr, $number:expr) => {
+        $crate::records::wrote!($thread, $address, $number, Relaxed)
+    };
 }
 
 /// The thread's strict write with this number.
-pub fn strict_write(thread: u8, address: u16, number: u16) -> Record
-    ensures { result ≡ Write (record { thread = thread; address = address; mode = Strict; value = number }) }
-{
-    wrote(thread, address, number, Mode::Strict)
+macro_rules! writes_strictly {
+    ($thread:expr, $address:expr, $number:expr) => {
+        $crate::records::wrote!($thread, $address, $number, Strict)
+    };
 }
 
 /// A relaxed read of the writer's write with this number.
-pub fn read(thread: u8, address: u16, writer: u8, number: u16) -> Record
-    ensures { result ≡ Read (record { thread = thread; address = address; source = WriteOf writer number; mode = Relaxed; value = number }) }
-{
-    let source = Source::Write {
-        thread: writer,
-        number,
+macro_rules! reads {
+    ($thread:expr, $address:expr, $writer:expr, $number:expr) => {
+        $crate::records::got!(
+            $thread,
+            $address,
+            record::Source::Write {
+                thread: $writer,
+                number: $number,
+            },
+            Relaxed,
+            $number
+        )
     };
-    got(thread, address, source, Mode::Relaxed, u32::from(number))
 }
 
 /// A relaxed read of the initial value.
-pub fn read_initial(thread: u8, address: u16) -> Record
-    ensures { result ≡ Read (record { thread = thread; address = address; source = Initial; mode = Relaxed; value = 0 }) }
-{
-    got(thread, address, Source::Initial, Mode::Relaxed, 0)
+macro_rules! reads_initial {
+    ($thread:expr, $address:expr) => {
+        $crate::records::got!($thread, $address, record::Source::Initial, Relaxed, 0)
+    };
 }
 
 /// A strict read of the initial value.
-pub fn strict_read_initial(thread: u8, address: u16) -> Record
-    ensures { result ≡ Read (record { thread = thread; address = address; source = Initial; mode = Strict; value = 0 }) }
-{
-    got(thread, address, Source::Initial, Mode::Strict, 0)
+macro_rules! reads_initial_strictly {
+    ($thread:expr, $address:expr) => {
+        $crate::records::got!($thread, $address, record::Source::Initial, Strict, 0)
+    };
 }
 
-pub fn fence(thread: u8) -> Record
-    ensures { result ≡ Fence (record { thread = thread }) }
-{
-    Record::Fence(FenceRecord { thread })
+macro_rules! fences {
+    ($thread:expr) => {
+        record::Record::Fence(record::FenceRecord { thread: $thread })
+    };
 }
 
-pub fn notify(thread: u8, label: u32) -> Record
-    ensures { result ≡ Notify (record { thread = thread; label = label }) }
-{
-    Record::Notify(NotifyRecord { thread, label })
+macro_rules! notifies {
+    ($thread:expr, $label:expr) => {
+        record::Record::Notify(record::NotifyRecord {
+            thread: $thread,
+            label: $label,
+        })
+    };
 }
 
-pub fn wait(thread: u8, label: u32) -> Record
-    ensures { result ≡ Wait (record { thread = thread; label = label }) }
-{
-    Record::Wait(WaitRecord { thread, label })
+macro_rules! waits {
+    ($thread:expr, $label:expr) => {
+        record::Record::Wait(record::WaitRecord {
+            thread: $thread,
+            label: $label,
+        })
+    };
 }
+
+pub(crate) use compliant;
+pub(crate) use fences;
+pub(crate) use got;
+pub(crate) use notifies;
+pub(crate) use reads;
+pub(crate) use reads_initial;
+pub(crate) use reads_initial_strictly;
+pub(crate) use unlawful;
+pub(crate) use waits;
+pub(crate) use writes;
+pub(crate) use writes_strictly;
+pub(crate) use wrote;

@@ -17,21 +17,23 @@ enum Format {
     Bundle,
 }
 
-/// One byte more than the longest of the format has, so that a longer one is seen to be too long.
-fn most_bytes(format: Format) -> u64
-    ensures { result ≡ most_bytes format }
-{
-    match format {
-        Format::Trace => 49_169,
-        Format::Bundle => 397_389,
+impl Format {
+    /// One byte more than the longest of the format has, so that a longer one is seen to be too long.
+    fn most_bytes(self) -> u64
+        ensures { result ≡ most_bytes self }
+    {
+        match self {
+            Format::Trace => 49_169,
+            Format::Bundle => 397_389,
+        }
     }
 }
 
 /// Reads bytes from their source and prints what there is to say of them.
 fn show<R: Read + Drop>(rt: &HostRuntime, source: R, format: Format) -> anyhow::Result<()> {
     let mut bytes = Vec::new(rt.alloc());
-    source.take(most_bytes(format)).read_to_end(&mut bytes)?;
-    let _said = match format {
+    source.take(format.most_bytes()).read_to_end(&mut bytes)?;
+    match format {
         Format::Trace => print_trace(rt, bytes.as_slice())?,
         Format::Bundle => print_bundle(rt, bytes.as_slice())?,
     };
@@ -40,18 +42,20 @@ fn show<R: Read + Drop>(rt: &HostRuntime, source: R, format: Format) -> anyhow::
 
 /// Shows each file that an argument names, or standard input where there is none; `--bundle` says that what comes next is a bundle.
 fn run(rt: &HostRuntime) -> anyhow::Result<()> {
+    // Two variables: `--bundle` with no file behind it says what standard input is shown as.
     let mut named = false;
     let mut format = Format::Trace;
     let mut words = env::args(rt)?;
     let _program = words.next();
     for word in words {
-        if word.as_str() == "--bundle" {
-            format = Format::Bundle;
-        } else {
-            named = true;
-            println!(rt; "{word}")?;
-            show(rt, fs::open(rt, word.as_str())?, format)?;
-            format = Format::Trace;
+        match word.as_str() {
+            "--bundle" => format = Format::Bundle,
+            name => {
+                named = true;
+                println!(rt; "{name}")?;
+                show(rt, fs::open(rt, name)?, format)?;
+                format = Format::Trace;
+            }
         }
     }
     if named {

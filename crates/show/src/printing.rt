@@ -18,7 +18,7 @@ pub fn print_trace(rt: &HostRuntime, bytes: &[u8]) -> io::Result<bool>
     match TraceFile::open(bytes) {
         Ok(file) => {
             let count = file.count();
-            let _ending = print_feed(rt, file, count)?;
+            print_feed(rt, file, count)?;
         }
         Err(refusal) => print_refusal(rt, refusal)?,
     }
@@ -46,9 +46,9 @@ pub fn print_bundle(rt: &HostRuntime, bytes: &[u8]) -> io::Result<bool>
     }
 }
 
+/// Prints why the bytes are refused.
 fn print_refusal(rt: &HostRuntime, refusal: Refusal) -> io::Result<()> {
-    let number = refusal.number();
-    println!(rt; "refused {number}: {refusal}")
+    println!(rt; "refused {}: {refusal}", refusal.number())
 }
 
 /// Prints the counts, a line for each record, and the ending, which is returned as damage or nothing.
@@ -83,7 +83,7 @@ fn print_records<F: Feed>(rt: &HostRuntime, feed: &mut F) -> io::Result<Option<D
             Ok(None) => return Ok(None),
             Err(damage) => return Ok(Some(damage)),
         }
-        // No contract bounds how long a feed is.
+        // A feed is no iterator, so the place is counted here; and no contract bounds how long a feed is.
         place = place.saturating_add(1);
     }
 }
