@@ -17,11 +17,11 @@ macro_rules! compliant {
 /// The line of an unlawful trace.
 macro_rules! unlawful {
     ($thread:expr, $index:expr, $reason:ident) => {
-        judging::Line::Unlawful {
+        judging::Line::Unlawful(model::UnlawfulRecord {
             thread: $thread,
             index: $index,
             reason: model::Reason::$reason,
-        }
+        })
     };
 }
 
