@@ -81,6 +81,7 @@ impl View {
         requires { self.old.passed + length writes.now ≤ 512 }
         ensures { self.new ≡ passing rank writes.now self.old }
     {
+        // A loop, since each turn changes the view.
         for write in writes {
             if write.rank >= rank {
                 return;

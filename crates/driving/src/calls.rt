@@ -5,6 +5,7 @@ use judging::RunAnswer;
 use model::Outcome;
 
 /// What a judge is asked to do.
+// Data and no closures, since a caller lends a list of calls and reads each answer beside its call.
 #[derive(Clone, Copy, PartialEq, Eq, Debug)]
 pub enum Call {
     /// Ask for one record.

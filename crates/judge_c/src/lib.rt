@@ -8,21 +8,20 @@ ghost use Rattle.judge_c.specs.Numbers.{numbers_of};
 use judging::{Line, judge_file};
 use model::UnlawfulRecord;
 
-// The kinds are constants of 64 bits, as the C header names them.
-const COMPLIANT: u64 = 0;
-
-const UNLAWFUL: u64 = 1;
-
-const DAMAGED: u64 = 2;
-
-const REFUSED: u64 = 3;
+/// The kinds of lines, by their numbers in the C header.
+enum Kind {
+    Compliant = 0,
+    Unlawful = 1,
+    Damaged = 2,
+    Refused = 3,
+}
 
 /// The kind of the line, then its numbers in the order in which the line has them, then zeros.
 fn numbers(line: Line) -> [u64; 4]
     ensures { result ≡ numbers_of line }
 {
     match line {
-        Line::Compliant { taken } => [COMPLIANT, taken as u64, 0, 0],
+        Line::Compliant { taken } => [Kind::Compliant as u64, taken as u64, 0, 0],
         Line::Unlawful(
             UnlawfulRecord {
                 thread,
@@ -30,18 +29,18 @@ fn numbers(line: Line) -> [u64; 4]
                 reason,
             },
         ) => [
-            UNLAWFUL,
+            Kind::Unlawful as u64,
             u64::from(thread),
             index as u64,
             u64::from(reason.number()),
         ],
         Line::Damaged(damage) => [
-            DAMAGED,
+            Kind::Damaged as u64,
             u64::from(damage.cause.number()),
             damage.place as u64,
             u64::from(damage.depth),
         ],
-        Line::Refused(refusal) => [REFUSED, u64::from(refusal.number()), 0, 0],
+        Line::Refused(refusal) => [Kind::Refused as u64, u64::from(refusal.number()), 0, 0],
     }
 }
 

@@ -68,6 +68,7 @@ impl TryFrom<u8> for Kind {
 }
 
 /// Where the value of a read comes from.
+// No `Option`, whose `None` would not say that the initial value is meant.
 #[derive(Clone, Copy, PartialEq, Eq, Debug)]
 pub enum Source {
     /// The value that the address had before any write.

@@ -37,6 +37,7 @@ impl Table {
     /// The table of these entries.
     ///
     /// Refuses entries that make none.
+    // No `TryFrom`, which anyone could call: entries are taken by `set` alone.
     fn of(entries: &[u8]) -> Result<Table, Refusal>
         ensures refusal { result_err result ≡ (if is_table entries.now then None else Some BadRenaming) }
         ensures table { IfOk result (λ x. HasEntries x entries.now) }
