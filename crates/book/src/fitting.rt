@@ -4,13 +4,13 @@ ghost use Rattle.std.specs.Prelude.{◌≡◌, ◌&&◌, true, is_some, IfSome, 
 ghost use Rattle.record.specs.WellMade.{thread_of};
 ghost use Rattle.book.specs.Pages.{fitting, source_fitting};
 
-use crate::threads::{Thread, Threads};
+use crate::threads::{Thread, ThreadCount};
 use record::{Record, Source};
 
 /// A record that can stand in a book of so many threads.
 #[derive(Clone, Copy)]
 pub(crate) struct Entry<'a> {
-    pub(crate) threads: Threads,
+    pub(crate) threads: ThreadCount,
     pub(crate) record: &'a Record,
     ghost fits: { fitting threads.count «record».now ≡ true },
 }
@@ -21,7 +21,7 @@ impl<'a> Entry<'a> {
         ensures variant { is_some result ≡ (nat_le threads 8 && fitting threads «record».now) }
         ensures value { IfSome result (λ entry. (entry.threads.count ≡ threads) × (entry.«record».now ≡ «record».now)) }
     {
-        let threads = Threads::new(threads)?;
+        let threads = ThreadCount::new(threads)?;
         if fits(threads.count, record) {
             Some(Entry { threads, record })
         } else {

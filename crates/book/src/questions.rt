@@ -6,7 +6,7 @@ ghost use Rattle.book.specs.Kept.{Kept};
 ghost use Rattle.book.specs.MayRead.{may_read};
 
 use crate::book::Book;
-use crate::threads::Threads;
+use crate::threads::ThreadCount;
 use record::Record;
 
 impl Book {
@@ -15,7 +15,7 @@ impl Book {
         ensures exact { result ≡ asked threads self.now.pages reader writer number }
         ensures keeps { (history : List Record) → Kept threads self.now history → result ≡ may_read threads history reader writer number }
     {
-        let threads = Threads::new(threads)?;
+        let threads = ThreadCount::new(threads)?;
         let reader = threads.thread(reader)?;
         let writer = threads.thread(writer)?;
         self.page(writer).write(number)?;

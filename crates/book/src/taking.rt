@@ -11,7 +11,7 @@ ghost use Rattle.book.specs.Kept.{Kept, WellMadeIn};
 use crate::book::Book;
 use crate::fitting::Entry;
 use crate::pages::Page;
-use crate::threads::{Thread, Threads};
+use crate::threads::{Thread, ThreadCount};
 use crate::views::View;
 use record::{Record, Source};
 
@@ -56,7 +56,7 @@ impl Book {
     }
 
     /// The waiter observes the notify of its next phase of each other thread.
-    fn observe_waits(&mut self, threads: Threads, waiter: Thread)
+    fn observe_waits(&mut self, threads: ThreadCount, waiter: Thread)
         ensures { self.new.pages ≡ waiting threads.count self.old.pages waiter.index (page_at self.old.pages waiter.index).waits }
     {
         let phase = self.page(waiter).waits;

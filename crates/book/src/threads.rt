@@ -5,7 +5,7 @@ ghost use Rattle.model.specs.Places.{any_below};
 
 /// How many threads there are, which is at most eight.
 #[derive(Clone, Copy)]
-pub(crate) struct Threads {
+pub(crate) struct ThreadCount {
     pub(crate) count: u8,
     ghost at_most_eight: { count ≤ 8 },
 }
@@ -17,14 +17,14 @@ pub(crate) struct Thread {
     ghost below_eight: { index < 8 },
 }
 
-impl Threads {
+impl ThreadCount {
     /// So many threads, if there is a page for each.
-    pub(crate) fn new(count: u8) -> Option<Threads>
+    pub(crate) fn new(count: u8) -> Option<ThreadCount>
         ensures variant { is_some result ≡ nat_le count 8 }
         ensures value { IfSome result (λ threads. threads.count ≡ count) }
     {
         if count <= 8 {
-            Some(Threads { count })
+            Some(ThreadCount { count })
         } else {
             None
         }

@@ -8,7 +8,7 @@ ghost use Rattle.book.specs.Kept.{Kept, WellMadeIn};
 
 use crate::book::Book;
 use crate::fitting::Entry;
-use crate::threads::{Thread, Threads};
+use crate::threads::{Thread, ThreadCount};
 use model::Reason;
 use record::{Label, ReadRecord, Record, Source};
 
@@ -77,7 +77,12 @@ impl Book {
         }
     }
 
-    fn initial_reason(&self, threads: Threads, reader: Thread, read: &ReadRecord) -> Option<Reason>
+    fn initial_reason(
+        &self,
+        threads: ThreadCount,
+        reader: Thread,
+        read: &ReadRecord,
+    ) -> Option<Reason>
         ensures { result ≡ said_initial threads.count self.now.pages reader.index read.now }
     {
         if read.value != 0 {
@@ -95,7 +100,7 @@ impl Book {
         (page.notifies.len() != page.waits as usize).then_some(Reason::NotifyOutOfTurn)
     }
 
-    fn wait_reason(&self, threads: Threads, waiter: Thread, label: Label) -> Option<Reason>
+    fn wait_reason(&self, threads: ThreadCount, waiter: Thread, label: Label) -> Option<Reason>
         ensures { result ≡ said_wait threads.count self.now.pages waiter.index label }
     {
         let page = self.page(waiter);
@@ -111,21 +116,21 @@ impl Book {
     }
 
     /// For the reader, a write of another thread to the address is covered.
-    fn any_covered(&self, threads: Threads, reader: Thread, address: u16) -> bool
+    fn any_covered(&self, threads: ThreadCount, reader: Thread, address: u16) -> bool
         ensures { result ≡ any_covered threads.count self.now.pages reader.index address }
     {
         threads.any(|u| u != reader && self.view(reader, u).is_initial_gone(self.page(u), address))
     }
 
     /// A thread other than the waiter has no notify of this phase.
-    fn any_missing(&self, threads: Threads, waiter: Thread, phase: u16) -> bool
+    fn any_missing(&self, threads: ThreadCount, waiter: Thread, phase: u16) -> bool
         ensures { result ≡ any_missing threads.count self.now.pages waiter.index phase }
     {
         threads.any(|u| u != waiter && self.page(u).lacks_notify(phase))
     }
 
     /// A thread's notify of this phase has another label.
-    fn any_other_label(&self, threads: Threads, phase: u16, label: Label) -> bool
+    fn any_other_label(&self, threads: ThreadCount, phase: u16, label: Label) -> bool
         ensures { result ≡ any_other_label threads.count self.now.pages phase label }
     {
         threads.any(|u| self.page(u).labels_otherwise(phase, label))

@@ -9,7 +9,7 @@ ghost use Rattle.corners.specs.Broken.{broken_meaning, broken_sound};
 use feed::{Feed, Refusal};
 use hold_back::{Hold, HoldBack};
 use record::{Cause, Counts, Damage, Record};
-use relay::{Addresses, RenamingRelay, Setting, Threads, shown_number};
+use relay::{AddressNames, RenamingRelay, Setting, ThreadNames, shown_number};
 use renaming::{Rotation, Table};
 use std::test::Fail;
 use trace_file::TraceFile;
@@ -78,8 +78,8 @@ fn next_threads<F: Feed>(feed: &mut F) -> [u8; 5]
 #[test]
 fn depths_stop_at_255(rt: HostRuntime) -> Result<(), Fail> {
     let turn = Rotation::new(1, 3)?;
-    let low = RenamingRelay::put_on(Broken { depth: 254 }, Threads(turn));
-    let mut high = RenamingRelay::put_on(low, Addresses(turn));
+    let low = RenamingRelay::put_on(Broken { depth: 254 }, ThreadNames(turn));
+    let mut high = RenamingRelay::put_on(low, AddressNames(turn));
     assert!(rt; matches!(high.next(), Err(Damage { depth: 255, .. })));
     let low = HoldBack::put_on(
         Broken { depth: 255 },
@@ -88,7 +88,7 @@ fn depths_stop_at_255(rt: HostRuntime) -> Result<(), Fail> {
             capacity: 17,
         },
     );
-    let mut high = RenamingRelay::put_on(low, Threads(turn));
+    let mut high = RenamingRelay::put_on(low, ThreadNames(turn));
     assert!(rt; matches!(high.next(), Err(Damage { depth: 255, .. })));
     let mut one = HoldBack::put_on(
         Broken { depth: 0 },
@@ -104,18 +104,21 @@ fn depths_stop_at_255(rt: HostRuntime) -> Result<(), Fail> {
 #[test]
 fn relays_over_refused_ones(rt: HostRuntime) -> Result<(), Fail> {
     let file = TraceFile::open(TURNS).ok().ok_or("refused")?;
-    let low = RenamingRelay::put_on(file, Threads(Rotation::new(3, 1)?));
+    let low = RenamingRelay::put_on(file, ThreadNames(Rotation::new(3, 1)?));
     assert_eq!(rt; shown_number(low.shows()), 7);
     let turn = Rotation::new(2, 7)?;
-    let mut high = RenamingRelay::put_on(low, Threads(turn));
+    let mut high = RenamingRelay::put_on(low, ThreadNames(turn));
     assert_eq!(rt; shown_number(high.shows()), 0);
     assert_eq!(rt; next_threads(&mut high), [1, 0, 1, 0, 9]);
-    assert_eq!(rt; Threads(turn).below(high.counts(), 1), 0);
+    assert_eq!(rt; ThreadNames(turn).below(high.counts(), 1), 0);
     let mut names = Table::new();
-    assert_eq!(rt; RenamingRelay::put_on(file, Addresses(names)).shows(), None);
+    assert_eq!(rt;
+        RenamingRelay::put_on(file, AddressNames(names)).shows(),
+        None
+    );
     names.set(&[1, 0])?;
     assert_eq!(rt;
-        RenamingRelay::put_on(file, Addresses(names)).shows(),
+        RenamingRelay::put_on(file, AddressNames(names)).shows(),
         Some(Refusal::BadRenaming)
     );
     Ok(())

@@ -13,9 +13,9 @@ use renaming::Renaming;
 
 /// The setting of a relay whose addresses go by other names: those of writes and reads are sent through the renaming.
 #[derive(Clone, Copy, Drop)]
-pub struct Addresses<R>(pub R);
+pub struct AddressNames<R>(pub R);
 
-impl<R: Renaming> Addresses<R> {
+impl<R: Renaming> AddressNames<R> {
     /// The address under its new name.
     fn renamed_address(&self, address: u16) -> u16
         requires { address < 256 }
@@ -25,7 +25,7 @@ impl<R: Renaming> Addresses<R> {
     }
 }
 
-impl<R: Renaming> Setting for Addresses<R> {
+impl<R: Renaming> Setting for AddressNames<R> {
     ghost relay = { λ s. addresses_by R.Renaming s.0 };
 
     ghost proper = { λ s. R.Renaming.laws s.0 };
@@ -39,7 +39,7 @@ impl<R: Renaming> Setting for Addresses<R> {
     }
 }
 
-impl<R: Renaming> Renames for Addresses<R> {
+impl<R: Renaming> Renames for AddressNames<R> {
     ghost change = { λ s. renamed_by unchanged (R.Renaming.onward s.0) };
 
     ghost each = { λ _ _. refl };

@@ -8,9 +8,9 @@ mod showing;
 mod threads;
 mod traits;
 
-pub use addresses::Addresses;
+pub use addresses::AddressNames;
 pub use deepening::deeper;
 pub use relaying::{AddressRelay, RenamingRelay, ThreadRelay};
 pub use showing::shown_number;
-pub use threads::Threads;
+pub use threads::ThreadNames;
 pub use traits::{Renames, Setting};

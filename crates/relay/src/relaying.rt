@@ -5,9 +5,9 @@ ghost use Rattle.std.proofs.Common.{ap};
 ghost use Rattle.feed.specs.Pile.{shown, through, on};
 ghost use Rattle.relay.specs.Sound.{through_sound};
 
-use crate::addresses::Addresses;
+use crate::addresses::AddressNames;
 use crate::deepening::deeper;
-use crate::threads::Threads;
+use crate::threads::ThreadNames;
 use crate::traits::{Renames, Setting};
 use feed::{Feed, Refusal};
 use record::{Counts, Damage, Record};
@@ -20,10 +20,10 @@ pub struct RenamingRelay<F, S> {
 }
 
 /// A feed whose threads go by other names.
-pub type ThreadRelay<F, R> = RenamingRelay<F, Threads<R>>;
+pub type ThreadRelay<F, R> = RenamingRelay<F, ThreadNames<R>>;
 
 /// A feed whose addresses go by other names.
-pub type AddressRelay<F, R> = RenamingRelay<F, Addresses<R>>;
+pub type AddressRelay<F, R> = RenamingRelay<F, AddressNames<R>>;
 
 impl<F: Feed, S: Renames> RenamingRelay<F, S> {
     ghost use Rattle.feed.specs.Alike.{KeepsAlike};

@@ -15,9 +15,9 @@ use renaming::Renaming;
 
 /// The setting of a relay whose threads go by other names: thread and writer are sent through the renaming.
 #[derive(Clone, Copy, Drop)]
-pub struct Threads<R>(pub R);
+pub struct ThreadNames<R>(pub R);
 
-impl<R: Renaming> Threads<R> {
+impl<R: Renaming> ThreadNames<R> {
     /// The source, with its thread under its new name.
     fn renamed_source(&self, source: Source) -> Source
         ensures { result ≡ source_renamed (R.Renaming.onward self.now.0) source }
@@ -32,7 +32,7 @@ impl<R: Renaming> Threads<R> {
     }
 }
 
-impl<R: Renaming> Setting for Threads<R> {
+impl<R: Renaming> Setting for ThreadNames<R> {
     ghost relay = { λ s. threads_by R.Renaming s.0 };
 
     ghost proper = { λ s. R.Renaming.laws s.0 };
@@ -49,7 +49,7 @@ impl<R: Renaming> Setting for Threads<R> {
     }
 }
 
-impl<R: Renaming> Renames for Threads<R> {
+impl<R: Renaming> Renames for ThreadNames<R> {
     ghost change = { λ s. renamed_by (R.Renaming.onward s.0) unchanged };
 
     ghost each = { λ _ _. refl };

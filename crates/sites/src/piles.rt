@@ -8,7 +8,7 @@ use driving::run_once;
 use feed::Feed;
 use hold_back::{Hold, HoldBack};
 use judging::RunAnswer;
-use relay::{Addresses, Renames, RenamingRelay, Setting, Threads};
+use relay::{AddressNames, Renames, RenamingRelay, Setting, ThreadNames};
 use renaming::{Rotation, Table};
 
 /// Judges the feed under other names.
@@ -39,7 +39,7 @@ pub fn renamed_and_held<F: Feed + Drop, S: Renames + Drop>(
 
 /// Judges the feed through five relays: its threads turned round, some records held back, its threads under the names of a table, its addresses turned round, and some records held back.
 pub fn deep<F: Feed + Drop>(feed: F, set: &Settings, hold: Hold, budget: usize) -> RunAnswer
-    ensures { F.Feed.unread feed → TellsBottom (on (holds_back hold.thread hold.capacity) (on (⟦<Addresses<Rotation> as Setting>⟧.relay set.now.shift) (on (⟦<Threads<Table> as Setting>⟧.relay set.now.names) (on (holds_back hold.thread hold.capacity) (on (⟦<Threads<Rotation> as Setting>⟧.relay set.now.turn) (F.Feed.pile feed)))))) budget result.outcome }
+    ensures { F.Feed.unread feed → TellsBottom (on (holds_back hold.thread hold.capacity) (on (⟦<AddressNames<Rotation> as Setting>⟧.relay set.now.shift) (on (⟦<ThreadNames<Table> as Setting>⟧.relay set.now.names) (on (holds_back hold.thread hold.capacity) (on (⟦<ThreadNames<Rotation> as Setting>⟧.relay set.now.turn) (F.Feed.pile feed)))))) budget result.outcome }
 {
     let turned = RenamingRelay::put_on(feed, set.turn);
     let behind = HoldBack::put_on(turned, hold);

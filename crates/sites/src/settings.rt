@@ -8,7 +8,7 @@ ghost use Rattle.sites.specs.Settings.{down_from};
 
 use feed::Refusal;
 use record::Counts;
-use relay::{Addresses, Threads};
+use relay::{AddressNames, ThreadNames};
 use renaming::{Rotation, Table};
 
 /// As many threads as there can be, the last first.
@@ -18,13 +18,13 @@ const DOWN: [u8; 8] = [7, 6, 5, 4, 3, 2, 1, 0];
 #[derive(Clone, Copy)]
 pub struct Settings {
     /// Every thread by one further.
-    pub turn: Threads<Rotation>,
+    pub turn: ThreadNames<Rotation>,
     /// Every address by five further.
-    pub shift: Addresses<Rotation>,
+    pub shift: AddressNames<Rotation>,
     /// A rotation for more threads than there can be.
-    pub wide: Threads<Rotation>,
+    pub wide: ThreadNames<Rotation>,
     /// The threads the other way round.
-    pub names: Threads<Table>,
+    pub names: ThreadNames<Table>,
 }
 
 /// The table that turns so many numbers the other way round, if there are 1 to 8.
@@ -48,10 +48,10 @@ impl Settings {
         ensures names { IfOk result (λ s. (is_table (drop (8 - counts.threads) (down_from 8)) ≡ true → HasEntries s.names.0 (drop (8 - counts.threads) (down_from 8)))) }
     {
         Ok(Settings {
-            turn: Threads(Rotation::new(counts.threads, 1)?),
-            shift: Addresses(Rotation::new(counts.addresses, 5)?),
-            wide: Threads(Rotation::new(64, 1)?),
-            names: Threads(backwards(counts.threads)),
+            turn: ThreadNames(Rotation::new(counts.threads, 1)?),
+            shift: AddressNames(Rotation::new(counts.addresses, 5)?),
+            wide: ThreadNames(Rotation::new(64, 1)?),
+            names: ThreadNames(backwards(counts.threads)),
         })
     }
 }

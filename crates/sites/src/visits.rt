@@ -11,7 +11,7 @@ use driving::run_once;
 use feed::Feed;
 use hold_back::Hold;
 use model::Outcome;
-use relay::{Addresses, Renames, Setting, Threads};
+use relay::{AddressNames, Renames, Setting, ThreadNames};
 use renaming::{Rotation, Table};
 use std::io;
 
@@ -42,7 +42,7 @@ impl Visits<'_> {
 
     /// Threads turned round.
     pub fn behind_a_rotation<F: Feed + Drop>(&self, feed: F) -> io::Result<Option<Outcome>>
-        ensures { IfOk result (λ o. (F.Feed.unread feed → TellsBottom (on (⟦<Threads<Rotation> as Setting>⟧.relay self.now.set.now.turn) (F.Feed.pile feed)) self.now.budget o)) }
+        ensures { IfOk result (λ o. (F.Feed.unread feed → TellsBottom (on (⟦<ThreadNames<Rotation> as Setting>⟧.relay self.now.set.now.turn) (F.Feed.pile feed)) self.now.budget o)) }
     {
         let turn = self.set.turn;
         let counts = feed.counts();
@@ -83,7 +83,7 @@ impl Visits<'_> {
 
     /// Threads by a table, and records of a thread held back.
     pub fn behind_a_table<F: Feed + Drop>(&self, feed: F) -> io::Result<Option<Outcome>>
-        ensures { IfOk result (λ o. (F.Feed.unread feed → TellsBottom (on (holds_back 0 4) (on (⟦<Threads<Table> as Setting>⟧.relay self.now.set.now.names) (F.Feed.pile feed))) self.now.budget o)) }
+        ensures { IfOk result (λ o. (F.Feed.unread feed → TellsBottom (on (holds_back 0 4) (on (⟦<ThreadNames<Table> as Setting>⟧.relay self.now.set.now.names) (F.Feed.pile feed))) self.now.budget o)) }
     {
         let hold = Hold {
             thread: 0,
@@ -95,7 +95,7 @@ impl Visits<'_> {
 
     /// Five relays.
     pub fn deep_down<F: Feed + Drop>(&self, feed: F) -> io::Result<Option<Outcome>>
-        ensures { IfOk result (λ o. (F.Feed.unread feed → TellsBottom (on (holds_back 0 16) (on (⟦<Addresses<Rotation> as Setting>⟧.relay self.now.set.now.shift) (on (⟦<Threads<Table> as Setting>⟧.relay self.now.set.now.names) (on (holds_back 0 16) (on (⟦<Threads<Rotation> as Setting>⟧.relay self.now.set.now.turn) (F.Feed.pile feed)))))) self.now.budget o)) }
+        ensures { IfOk result (λ o. (F.Feed.unread feed → TellsBottom (on (holds_back 0 16) (on (⟦<AddressNames<Rotation> as Setting>⟧.relay self.now.set.now.shift) (on (⟦<ThreadNames<Table> as Setting>⟧.relay self.now.set.now.names) (on (holds_back 0 16) (on (⟦<ThreadNames<Rotation> as Setting>⟧.relay self.now.set.now.turn) (F.Feed.pile feed)))))) self.now.budget o)) }
     {
         let set = self.set;
         let counts = feed.counts();
@@ -124,7 +124,7 @@ impl Visits<'_> {
 
     /// Two relays whose settings are refused.
     pub fn behind_refused_ones<F: Feed + Drop>(&self, feed: F) -> io::Result<Option<Outcome>>
-        ensures { IfOk result (λ o. (F.Feed.unread feed → TellsBottom (on (holds_back 0 17) (on (⟦<Threads<Rotation> as Setting>⟧.relay self.now.set.now.wide) (F.Feed.pile feed))) self.now.budget o)) }
+        ensures { IfOk result (λ o. (F.Feed.unread feed → TellsBottom (on (holds_back 0 17) (on (⟦<ThreadNames<Rotation> as Setting>⟧.relay self.now.set.now.wide) (F.Feed.pile feed))) self.now.budget o)) }
     {
         let hold = Hold {
             thread: 0,

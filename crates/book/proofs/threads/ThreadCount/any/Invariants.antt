@@ -1,7 +1,7 @@
 use Rattle.std.proofs.Common.{◌≡◌, ℕ, Bool, false}
 use Rattle.model.specs.Places.{any_below}
 use Rattle.book.specs.declared.threads.Thread.{Thread}
-use Rattle.book.proofs.threads.Threads.any.Given as goal
+use Rattle.book.proofs.threads.ThreadCount.any.Given as goal
 
 abbrev pub invariant-loop-index : goal.invariant-loop-index
 invariant-loop-index g l =
