@@ -42,7 +42,7 @@ impl Row {
 fn logs_end(rows: &[Row; 8], threads: u16) -> Option<usize>
     ensures { result ≡ logs_end threads 0 76 rows.now }
 {
-    // A loop over the rows with their thread, as the customer asked for what comes to look at the logs.
+    // A loop over the rows with their thread, which is prescribed for whatever looks at the logs.
     let mut end = HEADER_BYTES;
     for (t, row) in rows.iter().enumerate() {
         if !row.stands(t < usize::from(threads), end) {

@@ -1,4 +1,4 @@
-//! Why a record is not written, and why a trace is not copied. The customer asked for fault types of their own that `?` passes on.
+//! Why a record is not written, and why a trace is not copied. Fault types of their own, which `?` passes on, are prescribed.
 
 ghost use Rattle.std.specs.Prelude.{◌≡◌};
 ghost use Rattle.trace_file.specs.Writing.{refusal_of};

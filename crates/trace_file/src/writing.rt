@@ -87,7 +87,7 @@ fn put_record(buf: &mut [u8], record: Record, counts: Counts) -> Result<(), Unwr
     ensures answer { result ≡ Ok tt }
     ensures after { buf.new ≡ placed (trace_length (header_of buf.old).count) (bytes_of «record») buf.old }
 {
-    // The customer asked that the header is taken apart by a pattern, and the rest behind it lent on.
+    // That a pattern takes the header apart, and the rest behind it is lent on, is prescribed.
     let [
         t0,
         t1,
