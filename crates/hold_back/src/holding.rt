@@ -62,6 +62,7 @@ impl<F: Feed> HoldBack<F> {
         requires { (is_holding F.Feed.meaning self.old ≡ true) × (self.old.held.stalled ≡ None) }
         ensures { Asked (held_meaning F.Feed.meaning self.old) result (held_meaning F.Feed.meaning self.new) }
     {
+        // A feed is no iterator: it tells its ending, and may be asked again.
         loop {
             let next = self.feed.next();
             let Ok(Some(record)) = next else {
