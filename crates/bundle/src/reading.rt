@@ -19,7 +19,7 @@ pub struct Bundle<'a> {
     pub(crate) logs: [&'a [u8]; 8],
     /// The threads, in the order in which their records arrived.
     pub(crate) arrivals: &'a [u8],
-    /// How many of them were delivered.
+    /// How many of them were delivered: beside the whole list, whose length `count` tells.
     pub(crate) at: usize,
 }
 

@@ -2,6 +2,7 @@
 
 use feed::Refusal;
 use renaming::{Renaming, Rotation, Table};
+use std::array;
 use std::test::Fail;
 
 #[test]
@@ -43,10 +44,7 @@ fn tables_that_are_refused(rt: HostRuntime) -> Result<(), Fail> {
 
 #[test]
 fn tables_of_sixty_four_and_one_more(rt: HostRuntime) -> Result<(), Fail> {
-    let mut names = [0; 65];
-    for (i, name) in names.iter_mut().enumerate() {
-        *name = i as u8;
-    }
+    let names: [u8; 65] = array::from_fn(|i| i as u8);
     let mut table = Table::new();
     assert_eq!(rt; table.set(&names), Err(Refusal::BadRenaming));
     table.set(&names[0..64])?;
