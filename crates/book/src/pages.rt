@@ -41,7 +41,7 @@ pub struct Page {
     pub notifies: ArrayVec<Notified, 512>,
     /// how many are waits
     pub waits: u16,
-    /// what the thread has observed of each other one
+    /// what the thread has observed of each other one; a view for each thread that there can be, since the judge allocates nothing
     pub views: [View; 8],
 }
 

@@ -35,6 +35,7 @@ pub(crate) fn uses_exactly(arrivals: &[u8], threads: u8, rows: &[Row; 8]) -> boo
     requires { threads ≤ 8 }
     ensures { result ≡ uses_exactly threads rows.now arrivals.now }
 {
+    // A match: what `is_some_and` says of its closure does not close the proof.
     match tally(arrivals, threads) {
         Some(named) => rows_tally(rows, &named),
         None => false,

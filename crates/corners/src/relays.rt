@@ -62,6 +62,13 @@ const ALONE: &[u8; 40] = b"\x00\x01\x00\x01\x00\x00\x00\x02\x00\x00\x00\x10\x00\
 \x03\x00\x00\x00\x00\x00\x00\x00\x00\x00\x00\x00\
 \x03\x00\x00\x00\x00\x00\x00\x00\x00\x00\x00\x00";
 
+/// The setting that holds back up to so many records of this thread.
+fn hold(thread: u8, capacity: u8) -> Hold
+    ensures { (result.thread ≡ thread) × (result.capacity ≡ capacity) }
+{
+    Hold { thread, capacity }
+}
+
 /// The threads of the next five records, and 9 for each that is not there.
 fn next_threads<F: Feed>(feed: &mut F) -> [u8; 5]
     ensures { length result ≡ 5 }
@@ -81,22 +88,10 @@ fn depths_stop_at_255(rt: HostRuntime) -> Result<(), Fail> {
     let low = RenamingRelay::put_on(Broken { depth: 254 }, ThreadNames(turn));
     let mut high = RenamingRelay::put_on(low, AddressNames(turn));
     assert!(rt; matches!(high.next(), Err(Damage { depth: 255, .. })));
-    let low = HoldBack::put_on(
-        Broken { depth: 255 },
-        Hold {
-            thread: 0,
-            capacity: 17,
-        },
-    );
+    let low = HoldBack::put_on(Broken { depth: 255 }, hold(0, 17));
     let mut high = RenamingRelay::put_on(low, ThreadNames(turn));
     assert!(rt; matches!(high.next(), Err(Damage { depth: 255, .. })));
-    let mut one = HoldBack::put_on(
-        Broken { depth: 0 },
-        Hold {
-            thread: 0,
-            capacity: 1,
-        },
-    );
+    let mut one = HoldBack::put_on(Broken { depth: 0 }, hold(0, 1));
     assert!(rt; matches!(one.next(), Err(Damage { depth: 1, .. })));
     Ok(())
 }
@@ -127,73 +122,27 @@ fn relays_over_refused_ones(rt: HostRuntime) -> Result<(), Fail> {
 #[test]
 fn one_and_sixteen_are_held(rt: HostRuntime) -> Result<(), Fail> {
     let file = TraceFile::open(TURNS).ok().ok_or("refused")?;
-    let mut one = HoldBack::put_on(
-        file,
-        Hold {
-            thread: 0,
-            capacity: 1,
-        },
-    );
+    let mut one = HoldBack::put_on(file, hold(0, 1));
     assert_eq!(rt; next_threads(&mut one), [1, 0, 1, 0, 9]);
-    let mut many = HoldBack::put_on(
-        file,
-        Hold {
-            thread: 0,
-            capacity: 16,
-        },
-    );
+    let mut many = HoldBack::put_on(file, hold(0, 16));
     assert_eq!(rt; next_threads(&mut many), [1, 1, 0, 0, 9]);
-    let mut none = HoldBack::put_on(
-        file,
-        Hold {
-            thread: 0,
-            capacity: 17,
-        },
-    );
+    let mut none = HoldBack::put_on(file, hold(0, 17));
     assert_eq!(rt; shown_number(none.shows()), 8);
     assert_eq!(rt; next_threads(&mut none), [0, 1, 0, 1, 9]);
-    let mut other = HoldBack::put_on(
-        file,
-        Hold {
-            thread: 2,
-            capacity: 1,
-        },
-    );
+    let mut other = HoldBack::put_on(file, hold(2, 1));
     assert_eq!(rt; shown_number(other.shows()), 8);
     assert_eq!(rt; next_threads(&mut other), [0, 1, 0, 1, 9]);
-    assert_eq!(rt;
-        shown_number(HoldBack::put_on(
-            file,
-            Hold {
-                thread: 1,
-                capacity: 0
-            }
-        )
-        .shows()),
-        8
-    );
+    assert_eq!(rt; shown_number(HoldBack::put_on(file, hold(1, 0)).shows()), 8);
     Ok(())
 }
 
 #[test]
 fn stalled_at_the_end_and_alone(rt: HostRuntime) -> Result<(), Fail> {
     let file = TraceFile::open(READ).ok().ok_or("refused")?;
-    let mut stalls = HoldBack::put_on(
-        file,
-        Hold {
-            thread: 0,
-            capacity: 16,
-        },
-    );
+    let mut stalls = HoldBack::put_on(file, hold(0, 16));
     assert_eq!(rt; next_threads(&mut stalls), [0, 1, 9, 9, 9]);
     let file = TraceFile::open(ALONE).ok().ok_or("refused")?;
-    let mut alone = HoldBack::put_on(
-        file,
-        Hold {
-            thread: 0,
-            capacity: 1,
-        },
-    );
+    let mut alone = HoldBack::put_on(file, hold(0, 1));
     assert_eq!(rt; next_threads(&mut alone), [0, 0, 9, 9, 9]);
     Ok(())
 }

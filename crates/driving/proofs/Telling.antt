@@ -1,5 +1,5 @@
 -- What the answers tell of the bottom of the pile.
-use Rattle.std.proofs.Common.{◌≡◌, ℕ, zero, suc, ◌+◌, Bool, true, false, List, [], ◌∷◌, take, Some, None, Ok, Err, Option, Result, sym, refl, ap, ◌∙◌, subst, add-zero}
+use Rattle.std.proofs.Common.{◌≡◌, ℕ, zero, suc, ◌+◌, Bool, List, [], ◌∷◌, take, Some, None, Ok, Err, Option, Result, sym, refl, ap, ◌∙◌, subst, add-zero}
 use Rattle.std.specs.Result.{result_map_both}
 use Rattle.driving.specs.declared.calls.Reply.{Reply}
 use Rattle.driving.specs.declared.calls.Reply.TheVariants.{Step as ReplyToStep, Run as ReplyToRun, Question as ReplyToQuestion}

@@ -54,6 +54,7 @@ impl<F: Feed> HoldBack<F> {
         requires { is_holding F.Feed.meaning self.old ≡ false }
         ensures { Asked (held_meaning F.Feed.meaning self.old) result (held_meaning F.Feed.meaning self.new) }
     {
+        // A closure, since no contract comes with a name from a private module of another crate.
         self.feed.next().map_err(|damage| deeper(damage))
     }
 

@@ -17,6 +17,7 @@ enum Kind {
 }
 
 /// The kind of the line, then its numbers in the order in which the line has them, then zeros.
+// No `From`, since neither type is this crate's.
 fn numbers(line: Line) -> [u64; 4]
     ensures { result ≡ numbers_of line }
 {

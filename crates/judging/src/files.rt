@@ -10,12 +10,13 @@ use crate::judges::Judge;
 use crate::lines::Line;
 use feed::Feed;
 use model::Outcome;
-use trace_file::TraceFile;
+use trace_file::{MOST_RECORDS, TraceFile};
 
 /// More than the records of any trace file.
-const BUDGET: usize = 4097;
+const BUDGET: usize = MOST_RECORDS as usize + 1;
 
 /// The line of an outcome, where so many records were taken.
+// No `From`, since a pair of the two would say no more.
 pub fn line(outcome: Outcome, taken: usize) -> Line
     ensures { result ≡ outcome_line outcome taken }
 {

@@ -88,6 +88,7 @@ impl<P: Feed> Judge<P> {
     }
 
     /// One step, if no outcome was told yet.
+    // Apart from `step`, whose promise of the bottom is proved from this one's.
     fn step_once(&mut self) -> Result<Option<Outcome>, Refusal>
         ensures exact { AnswersFrom P.Feed.meaning self.old self.new result step_answer advanced }
         ensures refusal { OnErr result (self.new ≡ self.old) }
@@ -99,6 +100,7 @@ impl<P: Feed> Judge<P> {
     }
 
     /// Steps until the outcome is told or the budget is used, if no outcome was told yet.
+    // Apart from `run`, as a step is from `step`.
     fn run_for(&mut self, budget: usize) -> Result<RunAnswer, Refusal>
         ensures exact { AnswersFrom P.Feed.meaning self.old self.new result (run_answer budget) (advance_by budget) }
         ensures refusal { OnErr result (self.new ≡ self.old) }
@@ -119,6 +121,7 @@ impl<P: Feed> Judge<P> {
     }
 
     /// What the book says of reading that write now.
+    // Apart from `question`, as a step is from `step`.
     fn look_up(&self, reader: u8, writer: u8, number: u16) -> Result<bool, Refusal>
         ensures { (s : Standing) → At P.Feed.meaning self.now s → result ≡ question_answer s reader writer number }
     {
@@ -153,6 +156,7 @@ impl<P: Feed> Judge<P> {
     /// Whether the reader may now read the writer's write with this number, counted from 1: its own if no later own write is to that address, another's if it is not overwritten for the reader.
     ///
     /// Refuses where there is no such thread or no such write was taken. Answers also after an outcome.
+    // Three numbers and no struct of them: the call is prescribed so.
     pub fn question(&self, reader: u8, writer: u8, number: u16) -> Result<bool, Refusal>
         ensures exact { (s : Standing) → At P.Feed.meaning self.now s → result ≡ question_answer s reader writer number }
         ensures tells { TellsOn P.Feed.meaning self.now self.now 0 }

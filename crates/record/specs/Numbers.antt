@@ -18,6 +18,14 @@ kind_number (Fence f) = 3
 kind_number (Notify n) = 4
 kind_number (Wait w) = 5
 
+-- the number that names a kind
+abbrev pub kind_code : Kind → ℕ
+kind_code AWrite = 1
+kind_code ARead = 2
+kind_code AFence = 3
+kind_code ANotify = 4
+kind_code AWait = 5
+
 -- the kind that a number names, if it names one
 abbrev pub kind_named : ℕ → Result Kind Cause
 kind_named n =

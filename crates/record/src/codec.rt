@@ -1,7 +1,7 @@
 //! From twelve bytes to a record and back, and when a record is well made.
 
 ghost use Rattle.std.specs.Prelude.{◌≡◌, ◌==◌, ◌&&◌, Ok};
-ghost use Rattle.record.specs.Numbers.{kind_named};
+ghost use Rattle.record.specs.Numbers.{kind_code, kind_named};
 ghost use Rattle.record.specs.Layout.{fields_for, bytes_of};
 ghost use Rattle.record.specs.Reading.{wrong_thread, source_named, unused_zero, source_of, decoded, fields_read};
 ghost use Rattle.record.specs.WellMade.{checked};
@@ -12,6 +12,9 @@ use crate::kinds::{
     WriteRecord,
 };
 use crate::layout::Fields;
+
+/// The writer of a read that names no write.
+const NO_WRITER: u8 = 255;
 
 /// Whether a record of this thread cannot stand in the trace, or not in the log of `log`.
 fn wrong_thread(thread: u8, counts: Counts, log: Option<u8>) -> bool
@@ -26,7 +29,7 @@ impl Fields {
         ensures { result ≡ source_named counts self }
     {
         match self.writer {
-            255 => self.number == 0,
+            NO_WRITER => self.number == 0,
             writer => writer < counts.threads && self.number > 0,
         }
     }
@@ -56,7 +59,7 @@ impl Fields {
         ensures { result ≡ source_of self.writer self.number }
     {
         match self.writer {
-            255 => Source::Initial,
+            NO_WRITER => Source::Initial,
             thread => Source::Write {
                 thread,
                 number: self.number,
@@ -69,15 +72,9 @@ impl Fields {
         ensures { result ≡ fields_read counts log self }
     {
         let kind = Kind::try_from(self.kind)?;
-        let Fields {
-            thread,
-            address,
-            value,
-            ..
-        } = self;
         match (kind, Mode::try_from(self.mode)) {
-            _ if wrong_thread(thread, counts, log) => Err(Cause::WrongThread),
-            (Kind::Write | Kind::Read, _) if address >= u16::from(counts.addresses) => Err(
+            _ if wrong_thread(self.thread, counts, log) => Err(Cause::WrongThread),
+            (Kind::Write | Kind::Read, _) if self.address >= u16::from(counts.addresses) => Err(
                 Cause::UnknownAddress,
             ),
             (Kind::Write, Err(cause)) => Err(cause),
@@ -85,27 +82,46 @@ impl Fields {
             (Kind::Read, _) if !self.source_named(counts) => Err(Cause::UnknownSource),
             _ if !self.unused_zero(kind) => Err(Cause::UnusedNotZero),
             (Kind::Write, Ok(mode)) => Ok(Record::Write(WriteRecord {
-                thread,
-                address,
+                thread: self.thread,
+                address: self.address,
                 mode,
-                value,
+                value: self.value,
             })),
             (Kind::Read, Ok(mode)) => Ok(Record::Read(ReadRecord {
-                thread,
-                address,
+                thread: self.thread,
+                address: self.address,
                 source: self.source(),
                 mode,
-                value,
+                value: self.value,
             })),
-            (Kind::Fence, _) => Ok(Record::Fence(FenceRecord { thread })),
+            (Kind::Fence, _) => Ok(Record::Fence(FenceRecord {
+                thread: self.thread,
+            })),
             (Kind::Notify, _) => Ok(Record::Notify(NotifyRecord {
-                thread,
-                label: value,
+                thread: self.thread,
+                label: self.value,
             })),
             (Kind::Wait, _) => Ok(Record::Wait(WaitRecord {
-                thread,
-                label: value,
+                thread: self.thread,
+                label: self.value,
             })),
+        }
+    }
+}
+
+impl Fields {
+    /// The fields of a record that has none but a thread and a value.
+    fn plain(kind: Kind, thread: u8, value: u32) -> Fields
+        ensures { result ≡ record { kind = kind_code kind; thread = thread; address = 0; writer = 0; mode = 0; number = 0; value = value } }
+    {
+        Fields {
+            kind: kind as u8,
+            thread,
+            address: 0,
+            writer: 0,
+            mode: 0,
+            number: 0,
+            value,
         }
     }
 }
@@ -115,52 +131,28 @@ impl From<Record> for Fields {
     ghost from_gives = { λ x f. f ≡ fields_for x };
 
     fn from(x: Record) -> Fields {
-        let unused = Fields {
-            kind: 0,
-            thread: x.thread(),
-            address: 0,
-            writer: 0,
-            mode: 0,
-            number: 0,
-            value: 0,
-        };
         match x {
             Record::Write(w) => Fields {
-                kind: Kind::Write as u8,
                 address: w.address,
                 mode: w.mode as u8,
-                value: w.value,
-                ..unused
+                ..Fields::plain(Kind::Write, w.thread, w.value)
             },
             Record::Read(r) => {
                 let (writer, number) = match r.source {
-                    Source::Initial => (255, 0),
+                    Source::Initial => (NO_WRITER, 0),
                     Source::Write { thread, number } => (thread, number),
                 };
                 Fields {
-                    kind: Kind::Read as u8,
                     address: r.address,
                     writer,
                     mode: r.mode as u8,
                     number,
-                    value: r.value,
-                    ..unused
+                    ..Fields::plain(Kind::Read, r.thread, r.value)
                 }
             }
-            Record::Fence(_) => Fields {
-                kind: Kind::Fence as u8,
-                ..unused
-            },
-            Record::Notify(n) => Fields {
-                kind: Kind::Notify as u8,
-                value: n.label,
-                ..unused
-            },
-            Record::Wait(w) => Fields {
-                kind: Kind::Wait as u8,
-                value: w.label,
-                ..unused
-            },
+            Record::Fence(f) => Fields::plain(Kind::Fence, f.thread, 0),
+            Record::Notify(n) => Fields::plain(Kind::Notify, n.thread, n.label),
+            Record::Wait(w) => Fields::plain(Kind::Wait, w.thread, w.label),
         }
     }
 }

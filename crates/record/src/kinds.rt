@@ -40,7 +40,7 @@ impl TryFrom<u8> for Mode {
     }
 }
 
-/// What a thread did, whatever with: a record's first byte.
+/// Which of the five a record is, as its first byte says.
 #[derive(Clone, Copy)]
 pub(crate) enum Kind {
     Write = 1,

@@ -3,12 +3,12 @@ use Rattle.std.specs.Prelude.{ℕ, Some, None, Option}
 use Rattle.model.specs.declared.outcomes.Outcome.{Outcome}
 use Rattle.model.specs.declared.outcomes.Outcome.TheVariants.{Compliant, Unlawful, Damaged}
 
--- the thread that an outcome names, and 0 where it names none
-abbrev pub named_thread : Option Outcome → ℕ
-named_thread None = 0
-named_thread (Some Compliant) = 0
-named_thread (Some (Unlawful u)) = u.thread
-named_thread (Some (Damaged d)) = 0
+-- the thread that an outcome names, if it names one
+abbrev pub named_thread : Option Outcome → Option ℕ
+named_thread None = None
+named_thread (Some Compliant) = None
+named_thread (Some (Unlawful u)) = Some u.thread
+named_thread (Some (Damaged d)) = None
 
 -- the outcome, with the thread that it names under this name
 abbrev pub with_thread : Outcome → ℕ → Outcome

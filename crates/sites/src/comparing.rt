@@ -11,10 +11,10 @@ use driving::agree;
 use feed::Feed;
 use model::Outcome;
 use std::io;
-use trace_file::TraceFile;
+use trace_file::{MOST_RECORDS, TraceFile};
 
 /// More than the records of any trace file.
-const BUDGET: usize = 4097;
+const BUDGET: usize = MOST_RECORDS as usize + 1;
 
 /// Whether both have told an outcome, and the two agree.
 fn both_agree(a: Option<Outcome>, b: Option<Outcome>) -> bool

@@ -9,13 +9,13 @@ use model::{Outcome, UnlawfulRecord};
 use relay::shown_number;
 use std::{fmt, io};
 
-/// The thread that the outcome names, and 0 where it names none.
-pub fn named_thread(outcome: Option<Outcome>) -> u8
+/// The thread that the outcome names, if it names one.
+pub fn named_thread(outcome: Option<Outcome>) -> Option<u8>
     ensures { result ≡ named_thread outcome }
 {
     match outcome {
-        Some(Outcome::Unlawful(UnlawfulRecord { thread, .. })) => thread,
-        _ => 0,
+        Some(Outcome::Unlawful(UnlawfulRecord { thread, .. })) => Some(thread),
+        _ => None,
     }
 }
 
@@ -38,8 +38,8 @@ pub struct Site<'a> {
     pub shows: &'a [Option<Refusal>],
     /// What the judge answered there.
     pub answer: RunAnswer,
-    /// The bottom's name of the thread that the outcome names.
-    pub bottom: u8,
+    /// The bottom's name of the thread that the outcome names, if it names one.
+    pub bottom: Option<u8>,
 }
 
 impl fmt::Display for Site<'_> {
@@ -59,14 +59,13 @@ impl fmt::Display for Site<'_> {
             return f.write_str(": no outcome");
         };
         write!(f, ": {}", line(outcome, taken))?;
-        if matches!(outcome, Outcome::Unlawful(_)) {
-            write!(
-                f,
-                "; at the bottom {}",
-                line(with_thread(outcome, self.bottom), taken)
-            )?;
+        match self.bottom {
+            Some(thread) => {
+                let below = line(with_thread(outcome, thread), taken);
+                write!(f, "; at the bottom {below}")
+            }
+            None => Ok(()),
         }
-        Ok(())
     }
 }
 

@@ -53,7 +53,7 @@ impl Visits<'_> {
                 name: "threads rotated by 1",
                 shows: &[turn.shows(counts)],
                 answer,
-                bottom: turn.below(counts, named_thread(answer.outcome)),
+                bottom: named_thread(answer.outcome).map(|thread| turn.below(counts, thread)),
             },
         )
     }
@@ -76,7 +76,7 @@ impl Visits<'_> {
                 name,
                 shows: &[names.shows(counts), hold.shows(counts)],
                 answer,
-                bottom: names.below(counts, named_thread(answer.outcome)),
+                bottom: named_thread(answer.outcome).map(|thread| names.below(counts, thread)),
             },
         )
     }
@@ -104,7 +104,9 @@ impl Visits<'_> {
             capacity: 16,
         };
         let answer = deep(feed, set, hold, self.budget);
-        let named = set.names.below(counts, named_thread(answer.outcome));
+        let bottom = named_thread(answer.outcome).map(|thread| set
+            .turn
+            .below(counts, set.names.below(counts, thread)));
         print_site(
             self.rt,
             &Site {
@@ -117,7 +119,7 @@ impl Visits<'_> {
                     hold.shows(counts),
                 ],
                 answer,
-                bottom: set.turn.below(counts, named),
+                bottom,
             },
         )
     }

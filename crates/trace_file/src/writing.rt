@@ -30,6 +30,7 @@ pub fn write_record(slot: &mut [u8], record: Record, counts: Counts) -> Result<(
     ensures after { slot.new ≡ (if is_ok result then bytes_of «record» ++ drop 12 slot.old else slot.old) }
 {
     may_write(record, counts, slot.len())?;
+    // Both ends are written out: with `..12` the copy is not proved.
     slot[0..12].copy_from_slice(&record.encode());
     Ok(())
 }
