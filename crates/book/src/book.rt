@@ -11,7 +11,7 @@ use crate::views::View;
 use record::Record;
 use std::array;
 
-/// What is kept of each thread's records. A page stands in it for each thread that there can be, since the judge allocates nothing.
+/// What is kept of each thread's records. A page stands in it for each thread that there can be, since the judge allocates nothing; how many threads there are is the feed's to tell, and handed in.
 #[derive(Drop)]
 pub struct Book {
     pub(crate) pages: [Page; 8],

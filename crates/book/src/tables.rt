@@ -1,4 +1,4 @@
-//! Numbers that are kept for each of 64 addresses.
+//! Numbers that are kept for each of 64 addresses; 0 stands for none, so that every test is one comparison.
 
 ghost use Rattle.std.specs.Prelude.{◌≡◌, slice_index, slice_set};
 
@@ -13,7 +13,7 @@ pub(crate) fn number_at(table: &[u16; 64], address: u16) -> u16
 pub(crate) fn set_number(table: &mut [u16; 64], address: u16, number: u16)
     ensures { table.new ≡ slice_set table.old address number }
 {
-    // No `get_mut`, whose contract does not say in this form what is written back.
+    // No `if let` over `get_mut`: that the table then has the number is not proved so.
     if address < 64 {
         table[address as usize] = number;
     }

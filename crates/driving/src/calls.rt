@@ -12,7 +12,7 @@ pub enum Call {
     Step,
     /// Take records until an outcome or until so many are taken.
     Run { budget: usize },
-    /// May the reader now read the writer's write with this number, counted from 1?
+    /// May the reader now read the writer's write with this number, counted from 1? The three are those of `Judge::question`.
     Question { reader: u8, writer: u8, number: u16 },
 }
 

@@ -84,14 +84,14 @@ all-stand xs f n h =
 
 -- Places ----------------------------------------------------------------------------------------------------------------
 
-place-hit : (n x : ℕ) (xs : List ℕ) → x ≡ n → place_of (x ∷ xs) n ≡ 0
+pub place-hit : (n x : ℕ) (xs : List ℕ) → x ≡ n → place_of (x ∷ xs) n ≡ 0
 place-hit n x xs e = cond-true (x == n) 0 (suc (place_of xs n)) (eq-eqb x n e)
 
-place-miss : (n x : ℕ) (xs : List ℕ) → (x ≢ n) → place_of (x ∷ xs) n ≡ suc (place_of xs n)
+pub place-miss : (n x : ℕ) (xs : List ℕ) → (x ≢ n) → place_of (x ∷ xs) n ≡ suc (place_of xs n)
 place-miss n x xs e = cond-false (x == n) 0 (suc (place_of xs n)) (ne_eqb x n e)
 
 -- a number stands at its place
-at_its_place : (xs : List ℕ) (n : ℕ) → stands n xs ≡ true → (place_of xs n < length xs) × (slice_index xs (place_of xs n) ≡ n)
+pub at_its_place : (xs : List ℕ) (n : ℕ) → stands n xs ≡ true → (place_of xs n < length xs) × (slice_index xs (place_of xs n) ≡ n)
 at_its_place [] n e = absurd (both_ways false refl e)
 at_its_place (x ∷ xs) n e =
     ⊎_elim (λ (q : x ≡ n). let p = place-hit n x xs q in (omega arith, ap (λ k. slice_index (x ∷ xs) k) p ∙ q))
@@ -100,7 +100,7 @@ at_its_place (x ∷ xs) n e =
     let rest = at_its_place xs n (ap (λ b. b || stands n xs) (sym (ne_eqb x n q)) ∙ e) in
     (omega arith, ap (λ k. slice_index (x ∷ xs) k) p ∙ rest.1)) (cases_eq x n)
 
-stands_at : (xs : List ℕ) (k : ℕ) → k < length xs → stands (slice_index xs k) xs ≡ true
+pub stands_at : (xs : List ℕ) (k : ℕ) → k < length xs → stands (slice_index xs k) xs ≡ true
 stands_at [] k h = absurd (let no : ⊥ = omega arith in no)
 stands_at (x ∷ xs) zero h = or_left (x == x) (stands x xs) (eq-eqb x x refl)
 stands_at (x ∷ xs) (suc k) h = or_right (x == slice_index xs k) (stands (slice_index xs k) xs) (stands_at xs k (omega arith))

@@ -1,4 +1,4 @@
-//! The piles that a trace is sent through: what a judge on each of them answers to one run.
+//! The piles that a trace is sent through: what a judge on each of them answers to one run. Each takes the feed first and the budget last, as `run_once` does.
 
 ghost use Rattle.feed.specs.Pile.{on, holds_back};
 ghost use Rattle.judging.specs.Sites.{TellsBottom};

@@ -42,6 +42,7 @@ impl Settings {
     /// The settings for a trace of these counts.
     ///
     /// Refuses counts that are not 1 to 64.
+    // No `TryFrom`: the settings are made for the counts, and not out of them.
     pub fn of(counts: Counts) -> Result<Settings, Refusal>
         ensures test { is_ok result ≡ (allowed counts.threads && allowed counts.addresses) }
         ensures settings { IfOk result (λ s. Rotates s.turn.0 counts.threads 1 × Rotates s.shift.0 counts.addresses 5 × Rotates s.wide.0 64 1) }

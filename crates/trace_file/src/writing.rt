@@ -36,6 +36,7 @@ pub fn write_record(slot: &mut [u8], record: Record, counts: Counts) -> Result<(
 }
 
 /// The sixteen bytes of the header of an empty trace.
+// No `From`: they are the bytes of this one header, and of no other is any asked for.
 fn empty_header(counts: Counts) -> [u8; 16]
     ensures { result ≡ header_bytes counts 0 }
 {
