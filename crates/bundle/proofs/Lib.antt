@@ -1,6 +1,5 @@
 pub mod Arrays
 pub mod Front
-pub mod Rows
 pub mod Passed
 pub mod Tallied
 pub mod Slots

@@ -1,8 +1,7 @@
 -- What is left of a log, and one step of the logs together.
-use Rattle.std.proofs.Common.{◌≡◌, ℕ, zero, suc, ◌+◌, ◌-◌, ◌*◌, ◌/◌, ◌<◌, ◌≤◌, min, List, [], ◌∷◌, map, length, get_or, take, drop, set, Some, Ok, Err, Result, sym, refl, ap, ◌∙◌, subst, ⊎_elim, arith, take-add}
+use Rattle.std.proofs.Common.{◌≡◌, ℕ, zero, suc, ◌+◌, ◌*◌, ◌/◌, ◌<◌, ◌≤◌, List, [], ◌∷◌, map, length, get_or, take, drop, set, Some, Ok, Err, Result, sym, refl, ap, ◌∙◌, subst, arith, take-add}
 use Rattle.std.specs.Borrow.{Bor}
-use Rattle.std.proofs.lemmas.List.{drop_more, drop_all, take_all, take_min, take_at, drop-take, length-drop, length-take-le, get_or-map, map-set}
-use Rattle.std.proofs.lemmas.Bool.{cases_lt}
+use Rattle.std.proofs.lemmas.List.{drop_more, take_at, drop-take, length-drop, length-take-le, get_or-map, map-set}
 use Rattle.record.specs.declared.kinds.Counts.{Counts}
 use Rattle.record.specs.declared.kinds.Record.{Record}
 use Rattle.record.specs.declared.causes.Cause.{Cause}
@@ -19,21 +18,6 @@ use Rattle.bundle.specs.Reading.{read_in_log, read_as_arriving, log_bytes, slots
 use Rattle.bundle.specs.Peeking.{Peeked}
 
 -- One log -------------------------------------------------------------------------------------------------------------
-
--- so many bytes from a place on, where both are held to the bytes' end
-pub held-to-end : (bs : List ℕ) (o n s e : ℕ) → s ≡ min (length bs) o → e ≡ min (length bs) (s + n) → take (e - s) (drop s bs) ≡ take n (drop o bs)
-held-to-end bs o n s e p q =
-    ⊎_elim
-    (λ (h : length bs < o).
-    let a : drop s bs ≡ [] = drop_all s bs (omega arith) in
-    let b : drop o bs ≡ [] = drop_all o bs (omega arith) in
-    ap (take (e - s)) a ∙ (take_all (e - s) [] (omega arith) ∙ (sym (take_all n [] (omega arith)) ∙ ap (take n) (sym b))))
-    (λ (h : o ≤ length bs).
-    let l = length-drop o bs in
-    let same : s ≡ o = omega arith in
-    let few : e - s ≡ min n (length (drop o bs)) = omega arith in
-    (λ i. take (few i) (drop (same i) bs)) ∙ take_min n (drop o bs))
-    (cases_lt (length bs) o)
 
 twelves-front : (n : ℕ) (l : List ℕ) → 12 * n ≤ length l → twelves n (take (12 * n) l) ≡ twelves n l
 twelves-front zero l h = refl

@@ -50,16 +50,21 @@ record_of f =
     (cond (f.kind == 4) (Notify (record { thread = f.thread; label = f.value }))
     (Wait (record { thread = f.thread; label = f.value })))))
 
+-- the record of the fields, whose kind and thread there are, or the first cause that applies
+abbrev pub kind_read : Counts → Fields → Result Record Cause
+kind_read c f =
+    cond (access f && nat_le c.addresses f.address) (Err UnknownAddress)
+    (cond (access f && nat_lt 1 f.mode) (Err UnknownMode)
+    (cond (f.kind == 2 && not (source_named c f)) (Err UnknownSource)
+    (cond (not (unused_zero f)) (Err UnusedNotZero)
+    (Ok (record_of f)))))
+
 -- the record of the fields, or the first cause that applies
 abbrev pub fields_read : Counts → Option ℕ → Fields → Result Record Cause
 fields_read c log f =
     cond (f.kind == 0 || nat_lt 5 f.kind) (Err UnknownKind)
     (cond (wrong_thread c log f.thread) (Err WrongThread)
-    (cond (access f && nat_le c.addresses f.address) (Err UnknownAddress)
-    (cond (access f && nat_lt 1 f.mode) (Err UnknownMode)
-    (cond (f.kind == 2 && not (source_named c f)) (Err UnknownSource)
-    (cond (not (unused_zero f)) (Err UnusedNotZero)
-    (Ok (record_of f)))))))
+    (kind_read c f))
 
 -- the record of the bytes, or the first cause that applies; log is the thread whose log they stand in, if any
 abbrev pub decoded : Counts → Option ℕ → List ℕ → Result Record Cause

@@ -1,9 +1,10 @@
 //! From twelve bytes to a record and back, and when a record is well made.
 
-ghost use Rattle.std.specs.Prelude.{◌≡◌, ◌==◌, ◌&&◌, Ok};
-ghost use Rattle.record.specs.Numbers.{kind_code, kind_named};
+ghost use Rattle.std.specs.Prelude.{◌≡◌, ◌==◌, ◌&&◌, cond, Ok, Err, nat_le};
+ghost use Rattle.record.specs.declared.causes.Cause.TheVariants.{UnknownAddress, UnknownSource};
+ghost use Rattle.record.specs.Numbers.{kind_code, kind_named, mode_named};
 ghost use Rattle.record.specs.Layout.{fields_for, bytes_of};
-ghost use Rattle.record.specs.Reading.{wrong_thread, source_named, unused_zero, source_of, decoded, fields_read};
+ghost use Rattle.record.specs.Reading.{wrong_thread, source_named, source_of, kind_read, decoded, fields_read};
 ghost use Rattle.record.specs.WellMade.{checked};
 
 use crate::causes::Cause;
@@ -24,27 +25,14 @@ fn wrong_thread(thread: u8, counts: Counts, log: Option<u8>) -> bool
 }
 
 impl Fields {
-    /// Whether writer and number of a read name the initial value or a write.
-    fn source_named(self, counts: Counts) -> bool
-        ensures { result ≡ source_named counts self }
+    /// The mode of a write or read whose address there is, or the first cause that applies.
+    fn access(self, counts: Counts) -> Result<Mode, Cause>
+        ensures { result ≡ cond (nat_le counts.addresses self.address) (Err UnknownAddress) (mode_named self.mode) }
     {
-        match self.writer {
-            NO_WRITER => self.number == 0,
-            writer => writer < counts.threads && self.number > 0,
+        if self.address >= u16::from(counts.addresses) {
+            return Err(Cause::UnknownAddress);
         }
-    }
-
-    /// Whether every field that the kind does not use is zero.
-    fn unused_zero(self, kind: Kind) -> bool
-        requires { kind_named self.kind ≡ Ok kind }
-        ensures { result ≡ unused_zero self }
-    {
-        match kind {
-            Kind::Write => self.writer == 0 && self.number == 0,
-            Kind::Read => true,
-            Kind::Fence => self.is_plain() && self.value == 0,
-            Kind::Notify | Kind::Wait => self.is_plain(),
-        }
+        Mode::try_from(self.mode)
     }
 
     /// Whether all but kind, thread and value is zero.
@@ -54,16 +42,60 @@ impl Fields {
         self.address == 0 && self.writer == 0 && self.mode == 0 && self.number == 0
     }
 
-    /// The source that a read's writer and number name.
-    fn source(self) -> Source
-        ensures { result ≡ source_of self.writer self.number }
+    /// The source that a read's writer and number name, if they name one.
+    fn source(self, counts: Counts) -> Result<Source, Cause>
+        ensures { result ≡ cond (source_named counts self) (Ok (source_of self.writer self.number)) (Err UnknownSource) }
     {
-        match self.writer {
-            NO_WRITER => Source::Initial,
-            thread => Source::Write {
+        match (self.writer, self.number) {
+            (NO_WRITER, 0) => Ok(Source::Initial),
+            (thread, number) if thread < counts.threads && number > 0 => {
+                Ok(Source::Write { thread, number })
+            }
+            _ => Err(Cause::UnknownSource),
+        }
+    }
+
+    /// The record of a kind with these fields, whose thread there is, or the first cause that applies.
+    fn record_of(self, kind: Kind, counts: Counts) -> Result<Record, Cause>
+        requires { kind_named self.kind ≡ Ok kind }
+        ensures { result ≡ kind_read counts self }
+    {
+        let (thread, value) = (self.thread, self.value);
+        match kind {
+            Kind::Write => {
+                let mode = self.access(counts)?;
+                if self.writer != 0 || self.number != 0 {
+                    return Err(Cause::UnusedNotZero);
+                }
+                Ok(Record::Write(WriteRecord {
+                    thread,
+                    address: self.address,
+                    mode,
+                    value,
+                }))
+            }
+            Kind::Read => {
+                let mode = self.access(counts)?;
+                let source = self.source(counts)?;
+                Ok(Record::Read(ReadRecord {
+                    thread,
+                    address: self.address,
+                    source,
+                    mode,
+                    value,
+                }))
+            }
+            _ if !self.is_plain() => Err(Cause::UnusedNotZero),
+            Kind::Fence if value != 0 => Err(Cause::UnusedNotZero),
+            Kind::Fence => Ok(Record::Fence(FenceRecord { thread })),
+            Kind::Notify => Ok(Record::Notify(NotifyRecord {
                 thread,
-                number: self.number,
-            },
+                label: value,
+            })),
+            Kind::Wait => Ok(Record::Wait(WaitRecord {
+                thread,
+                label: value,
+            })),
         }
     }
 
@@ -72,40 +104,10 @@ impl Fields {
         ensures { result ≡ fields_read counts log self }
     {
         let kind = Kind::try_from(self.kind)?;
-        match (kind, Mode::try_from(self.mode)) {
-            _ if wrong_thread(self.thread, counts, log) => Err(Cause::WrongThread),
-            (Kind::Write | Kind::Read, _) if self.address >= u16::from(counts.addresses) => Err(
-                Cause::UnknownAddress,
-            ),
-            (Kind::Write, Err(cause)) => Err(cause),
-            (Kind::Read, Err(cause)) => Err(cause),
-            (Kind::Read, _) if !self.source_named(counts) => Err(Cause::UnknownSource),
-            _ if !self.unused_zero(kind) => Err(Cause::UnusedNotZero),
-            (Kind::Write, Ok(mode)) => Ok(Record::Write(WriteRecord {
-                thread: self.thread,
-                address: self.address,
-                mode,
-                value: self.value,
-            })),
-            (Kind::Read, Ok(mode)) => Ok(Record::Read(ReadRecord {
-                thread: self.thread,
-                address: self.address,
-                source: self.source(),
-                mode,
-                value: self.value,
-            })),
-            (Kind::Fence, _) => Ok(Record::Fence(FenceRecord {
-                thread: self.thread,
-            })),
-            (Kind::Notify, _) => Ok(Record::Notify(NotifyRecord {
-                thread: self.thread,
-                label: self.value,
-            })),
-            (Kind::Wait, _) => Ok(Record::Wait(WaitRecord {
-                thread: self.thread,
-                label: self.value,
-            })),
+        if wrong_thread(self.thread, counts, log) {
+            return Err(Cause::WrongThread);
         }
+        self.record_of(kind, counts)
     }
 }
 
