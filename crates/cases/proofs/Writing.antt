@@ -4,7 +4,7 @@ use Rattle.std.proofs.lemmas.List.{drop_all}
 use Rattle.record.specs.declared.kinds.Counts.{Counts}
 use Rattle.record.specs.declared.kinds.Record.{Record}
 use Rattle.feed.specs.declared.refusals.Refusal.{Refusal}
-use Rattle.trace_file.specs.Writing.{begun, appends, appended}
+use Rattle.trace_file.specs.Writing.{begun, appends}
 use Rattle.trace_file.specs.Laws.{all_appended, AllGranted, ReadAgain}
 use Rattle.trace_file.proofs.Written.{written-is-read}
 use Rattle.judging.specs.Lines.{meaning_line, line_of}
@@ -13,10 +13,6 @@ use Rattle.cases.specs.Judged.{Fitting, case_line}
 module _ (bs : List ℕ) (xs : List Record) (i : ℕ) (d : Record) (l : i < length xs) where
   next : drop i xs ≡ get_or xs i d ∷ drop (i + 1) xs
   next = drop-cons xs i d l ∙ ap (λ k. get_or xs i d ∷ drop k xs) (sym (add-one i))
-
-  -- one more record is appended
-  pub one_more : (bs' end : List ℕ) → bs' ≡ appended bs (get_or xs i d) → AllGranted bs (drop i xs) × (all_appended bs (drop i xs) ≡ end) → AllGranted bs' (drop (i + 1) xs) × (all_appended bs' (drop (i + 1) xs) ≡ end)
-  one_more bs' end e p = (subst (λ b. AllGranted b (drop (i + 1) xs)) (sym e) (subst (AllGranted bs) next p.0).1, ap (λ b. all_appended b (drop (i + 1) xs)) e ∙ (sym (ap (all_appended bs) next) ∙ p.1))
 
   -- none is refused
   pub granted : (r : Refusal) → Err r ≡ appends bs (get_or xs i d) → AllGranted bs (drop i xs) → ⊥

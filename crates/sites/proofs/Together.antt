@@ -1,13 +1,10 @@
 -- The sites of one trace agree.
-use Rattle.std.proofs.Common.{◌≡◌, ℕ, ◌<◌, ◌≤◌, true, ◌&&◌, [], ◌∷◌, length, drop, Some, None, Ok, Err, Option, Result, sym, ap, ◌∙◌, subst, arith, length-drop}
+use Rattle.std.proofs.Common.{◌≡◌, ℕ, ◌<◌, true, ◌&&◌, [], ◌∷◌, length, Option, ◌∙◌, subst}
 use Rattle.model.specs.declared.outcomes.Outcome.{Outcome}
 use Rattle.feed.specs.Pile.{Pile, bottom_of, bottoms_records}
 use Rattle.judging.specs.Sites.{TellsBottom}
 use Rattle.driving.proofs.Agreement.{sites-agree}
-use Rattle.record.specs.declared.kinds.Record.{Record}
-use Rattle.record.specs.declared.causes.Damage.{Damage}
-use Rattle.feed.specs.Meaning.{Meaning, Asked}
-use Rattle.sites.specs.Together.{both_agree, all_agree, behind_one}
+use Rattle.sites.specs.Together.{both_agree, all_agree}
 
 -- two that have told
 pub tell-alike : (p q : Pile) → bottom_of p ≡ bottom_of q → (n : ℕ) → length (bottoms_records p) < n → (a b : Option Outcome) → TellsBottom p n a → TellsBottom q n b → both_agree a b ≡ true
@@ -21,13 +18,3 @@ pub four-agree : (p q r s t : Pile) → bottom_of p ≡ bottom_of q → bottom_o
     → (a b c d e : Option Outcome) → TellsBottom p n a → TellsBottom q n b → TellsBottom r n c → TellsBottom s n d → TellsBottom t n e → all_agree a (b ∷ c ∷ d ∷ e ∷ []) ≡ true
 four-agree p q r s t eq er es et n l a b c d e ta tb tc td te =
     λ i. tell-alike p q eq n l a b ta tb i && (tell-alike p r er n l a c ta tc i && (tell-alike p s es n l a d ta td i && (tell-alike p t et n l a e ta te i && true)))
-
--- What asking once leaves ----------------------------------------------------------------------------------------------------
-
-pub one-asked : (m n : Meaning) (r : Result (Option Record) Damage) → Asked m r n → n ≡ behind_one m
-one-asked m n (Ok (Some x)) a = λ i. record { counts = a.1 i; waiting = sym (ap (drop 1) a.0) i; ending = a.2 i }
-one-asked m n (Ok None) a = a.2 ∙ λ i. record { counts = m.counts; waiting = (a.0 ∙ sym (ap (drop 1) a.0)) i; ending = m.ending }
-one-asked m n (Err d) a = a.2 ∙ λ i. record { counts = m.counts; waiting = (a.0 ∙ sym (ap (drop 1) a.0)) i; ending = m.ending }
-
-pub one-shorter : (m n : Meaning) → n ≡ behind_one m → length n.waiting ≤ length m.waiting
-one-shorter m n e = let k = ap (λ t. length t.waiting) e in let l = length-drop 1 m.waiting in omega arith

@@ -1,6 +1,6 @@
 use Rattle.std.proofs.Common.{sym, refl, ap, ◌∙◌, subst}
 use Rattle.trace_file.specs.Laws.{all_appended, AllGranted}
-use Rattle.cases.proofs.Writing.{one_more, granted, finished}
+use Rattle.cases.proofs.Writing.{granted, finished}
 use Rattle.cases.proofs.judged.write_trace.Goals as goal
 
 pub returns-in_err-append : goal.returns-in_err-append
@@ -8,9 +8,6 @@ returns-in_err-append c = λ r.
     let xs = c.args.records.now in
     let g : AllGranted c.begin.new.buf xs = subst (λ b. AllGranted b xs) (sym c.in_ok-begin.ensures.after) r.appends_granted in
     absurd (granted c.loop-record.buf xs c.loop-record.record-index _ c.loop-record-test.true c.in_err-append.field-0.0 c.in_err-append.ensures.answer (c.loop-record.invariant g).0)
-
-pub loop-record-preserved : goal.loop-record-preserved
-loop-record-preserved c = λ g. one_more c.loop-record.buf c.args.records.now c.loop-record.record-index _ c.loop-record-test.true c.append.new.buf _ c.in_ok-append.ensures.after (c.loop-record.invariant g)
 
 pub returns : goal.returns
 returns c = λ r.
