@@ -2,6 +2,7 @@
 
 ghost use Rattle.std.specs.Prelude.{◌≡◌, ℕ, suc, ◌<◌, ◌≤◌, true, List, [], ◌∷◌, ◌++◌, length, Some, None, MatchOption};
 ghost use Rattle.record.specs.declared.kinds.Record.{Record};
+ghost use Rattle.record.specs.declared.kinds.Record.TheVariants.{Fence};
 ghost use Rattle.model.specs.HoldBack.{hindered, held_back};
 ghost use Rattle.feed.specs.Meaning.{Meaning};
 ghost use Rattle.feed.specs.Pile.{through, holds_back};
@@ -25,6 +26,8 @@ impl Model for Kept {
 }
 
 impl Default for Kept {
+    ghost is_default = { λ kept. kept ≡ Fence (record { thread = 0 }) };
+
     fn default() -> Kept {
         Kept(Record::Fence(FenceRecord { thread: 0 }))
     }
