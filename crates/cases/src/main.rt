@@ -4,6 +4,7 @@
 mod compliance;
 mod corners;
 mod judged;
+mod meanings;
 mod records;
 mod worked;
 

@@ -19,7 +19,7 @@ pub fn renamed<F: Feed + Drop, S: Renames + Drop>(feed: F, names: S, budget: usi
 }
 
 /// Judges the feed with some of a thread's records held back.
-fn held<F: Feed + Drop>(feed: F, hold: Hold, budget: usize) -> RunAnswer
+pub fn held<F: Feed + Drop>(feed: F, hold: Hold, budget: usize) -> RunAnswer
     ensures { F.Feed.unread feed → TellsBottom (on (holds_back hold.thread hold.capacity) (F.Feed.pile feed)) budget result.outcome }
 {
     run_once(HoldBack::put_on(feed, hold), budget)

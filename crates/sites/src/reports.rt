@@ -1,6 +1,6 @@
 //! What is printed of a site.
 
-ghost use Rattle.std.specs.Prelude.{◌≡◌, IfOk};
+ghost use Rattle.std.specs.Prelude.{◌≡◌, length, IfOk};
 ghost use Rattle.sites.specs.Reported.{named_thread, with_thread};
 
 use feed::Refusal;
@@ -42,14 +42,25 @@ pub struct Site<'a> {
     pub bottom: Option<u8>,
 }
 
+/// Writes what each relay shows, one number after the other, and returns how many there are.
+fn write_shown<W: fmt::Write>(
+    f: &mut fmt::Formatter<W>,
+    shows: &[Option<Refusal>],
+) -> Result<usize, fmt::Error>
+    ensures { IfOk result (λ n. n ≡ length shows.now) }
+{
+    for shown in shows {
+        write!(f, " {}", shown_number(*shown))?;
+    }
+    Ok(shows.len())
+}
+
 impl fmt::Display for Site<'_> {
     fn fmt<W: fmt::Write>(&self, f: &mut fmt::Formatter<W>) -> fmt::Result {
         f.write_str(self.name)?;
         if !self.shows.is_empty() {
             f.write_str(", shows")?;
-        }
-        for shown in self.shows {
-            write!(f, " {}", shown_number(*shown))?;
+            let _relays = write_shown(f, self.shows)?;
         }
         let RunAnswer {
             outcome: Some(outcome),
