@@ -1,5 +1,5 @@
 -- What is left of a log, and one step of the logs together.
-use Rattle.std.proofs.Common.{◌≡◌, ℕ, zero, suc, ◌+◌, ◌*◌, ◌/◌, ◌<◌, ◌≤◌, List, [], ◌∷◌, map, length, get_or, take, drop, set, Some, Ok, Err, Result, sym, refl, ap, ◌∙◌, subst, arith, take-add}
+use Rattle.std.proofs.Common.{◌≡◌, ℕ, zero, suc, ◌+◌, ◌*◌, ◌/◌, ◌<◌, ◌≤◌, List, [], ◌∷◌, map, length, get_or, take, drop, set, Some, None, Ok, Err, Result, sym, refl, ap, ◌∙◌, subst, arith, take-add}
 use Rattle.std.specs.Borrow.{Bor}
 use Rattle.std.proofs.lemmas.List.{drop_more, take_at, drop-take, length-drop, length-take-le, get_or-map, map-set}
 use Rattle.record.specs.declared.kinds.Counts.{Counts}
@@ -42,9 +42,23 @@ whole-log bs row h =
 entry : (c : Counts) (logs : List (List (List ℕ))) (ts : List ℕ) (at t : ℕ) → at < length ts → t ≡ get_or ts at 0 → read_as_arriving c logs (drop at ts) ≡ map (read_in_log c) (next_of t (get_or logs t []) (λ slots. arriving (set logs t slots) (drop (at + 1) ts)))
 entry c logs ts at t h e = ap (read_as_arriving c logs) (drop_more ts at 0 h) ∙ ap (λ u. read_as_arriving c logs (u ∷ drop (at + 1) ts)) (sym e)
 
+-- nothing is left to be read
+ended : (c : Counts) (at : ℕ) (ws : List (Result Record Cause)) → ws ≡ [] → Asked (delivering c at ws) (Ok None) (delivering c at ws)
+ended c at ws e = subst (λ w. Asked (delivering c at w) (Ok None) (delivering c at w)) (sym e) (refl, refl, refl)
+
 -- what is left of the entry's log
 left : (logs : List (Bor (List ℕ))) (t : ℕ) (log : Bor (List ℕ)) → t < length logs → log ≡ get_or logs t log → get_or (map slots_left logs) t [] ≡ slots_left log
 left logs t log h g = get_or-map slots_left logs t log [] h ∙ ap slots_left (sym g)
+
+twelves-none : (bs : List ℕ) → length bs < 12 → twelves (length bs / 12) bs ≡ []
+twelves-none bs h = let e : length bs / 12 ≡ 0 = omega arith in ap (λ n. twelves n bs) e
+
+-- the entry's log has no record left
+pub peeked-none : (c : Counts) (logs : List (Bor (List ℕ))) (ts : List ℕ) (at t : ℕ) (log : Bor (List ℕ)) → at < length ts → t ≡ get_or ts at 0 → t < length logs → log ≡ get_or logs t log → length log.now < 12 → Peeked c logs ts at None
+peeked-none c logs ts at t log h e l g short =
+    let all = map slots_left logs in
+    let n : get_or all t [] ≡ [] = left logs t log l g ∙ twelves-none log.now short in
+    ended (in_range c) at _ (entry (in_range c) all ts at t h e ∙ ap (λ w. map (read_in_log (in_range c)) (next_of t w (λ slots. arriving (set all t slots) (drop (at + 1) ts)))) n)
 
 -- what waits is the record at hand and what the logs hold behind it
 behind : (c : Counts) (logs : List (Bor (List ℕ))) (ts : List ℕ) (at t : ℕ) (log rest : Bor (List ℕ)) (slot : List ℕ) → at < length ts → t ≡ get_or ts at 0 → t < length logs → log ≡ get_or logs t log → 12 ≤ length log.now → slot ≡ take 12 log.now → rest.now ≡ drop 12 log.now

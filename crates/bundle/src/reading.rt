@@ -8,8 +8,8 @@ ghost use Rattle.bundle.specs.Peeking.{Peeked};
 ghost use Rattle.bundle.specs.Sound.{bundle_sound, bundle_found};
 
 use feed::Feed;
-use record::{Cause, Counts, Damage, Record};
-use trace_file::in_range;
+use record::{Cause, Counts, Damage, RECORD_BYTES, Record};
+use trace_file::{first_twelve, in_range};
 
 /// The records of a bundle, from lent bytes.
 #[derive(Drop)]
@@ -37,8 +37,9 @@ impl<'a> Bundle<'a> {
     {
         let thread = *self.arrivals.get(self.at)?;
         let log = usize::from(thread);
-        let (slot, rest) = self.logs.get(log)?.split_first_chunk()?;
-        Some((log, self.read_in_log(slot, thread), rest))
+        let left = *self.logs.get(log)?;
+        let slot = first_twelve(left)?;
+        Some((log, self.read_in_log(&slot, thread), &left[RECORD_BYTES..]))
     }
 }
 

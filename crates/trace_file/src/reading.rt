@@ -9,7 +9,7 @@ ghost use Rattle.trace_file.specs.Sound.{file_sound, file_found};
 
 use crate::layout::in_range;
 use feed::Feed;
-use record::{Cause, Counts, Damage, Record};
+use record::{Cause, Counts, Damage, RECORD_BYTES, Record};
 
 /// The records of a trace file, from lent bytes.
 #[derive(Clone, Copy)]
@@ -27,8 +27,9 @@ impl<'a> TraceFile<'a> {
     fn peek(&self) -> Option<(Result<Record, Cause>, &'a [u8])>
         ensures { Peeked self.now.counts self.now.records.now self.now.place result }
     {
-        let (bytes, rest) = self.records.split_first_chunk()?;
-        Some((Record::decode(bytes, self.counts(), None), rest))
+        let slot = first_twelve(self.records)?;
+        let rest = &self.records[RECORD_BYTES..];
+        Some((Record::decode(&slot, self.counts(), None), rest))
     }
 }
 
