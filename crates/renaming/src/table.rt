@@ -96,6 +96,10 @@ impl Renaming for Table {
     }
 
     fn back(&self, n: u8) -> u8 {
+        // No entry names a number that is not below the count, so none is looked at.
+        if n >= self.count {
+            return n;
+        }
         self.named(n).map_or(n, |place| place as u8)
     }
 }
