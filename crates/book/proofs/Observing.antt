@@ -24,7 +24,7 @@ abbrev pub Events : List Record → List ℕ → Type 0
 Events xs seen = Each (is_at (is_event E) xs) seen
 
 -- numbers that the same numbers are below are the same
-same-below : (a b : ℕ) → ((n : ℕ) → ltb n a ≡ ltb n b) → a ≡ b
+pub same-below : (a b : ℕ) → ((n : ℕ) → ltb n a ≡ ltb n b) → a ≡ b
 same-below a b h =
     ⊎_elim
     (λ (l : a < b). absurd (omega (arith, ltb-true a a (h a ∙ lt-ltb a b l))))

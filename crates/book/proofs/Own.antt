@@ -24,7 +24,7 @@ use Rattle.book.specs.Kept.{up_to, last_to, written_at, notified_at, OwnKept}
 use Rattle.book.proofs.Numbers.{is-inside, at-end, count-end, count-few, up_to-grown, up_to-end, up_to-less, rank-grown, rank-end, stricts-end, stricts-few}
 use Rattle.book.proofs.Observing.{to-parts}
 
-length_more : (xs : List Record) (x : Record) → length (xs ++ x ∷ []) ≡ suc (length xs)
+pub length_more : (xs : List Record) (x : Record) → length (xs ++ x ∷ []) ≡ suc (length xs)
 length_more xs x = length_push xs x ∙ add-one (length xs)
 
 -- Lists of what such records hold -----------------------------------------------------------------------------------

@@ -10,7 +10,7 @@ use Rattle.hold_back.specs.Holding.{same_counts, holding}
 use Rattle.hold_back.specs.HoldSound.{counts_same}
 
 -- the record that was delivered is well made
-delivered-well-made : (m n : Meaning) (x : Record) → WellMade m → Asked m (Ok (Some x)) n → checked m.counts x ≡ Ok tt
+pub delivered-well-made : (m n : Meaning) (x : Record) → WellMade m → Asked m (Ok (Some x)) n → checked m.counts x ≡ Ok tt
 delivered-well-made m n x w a = (subst (AllWellMade m.counts) a.0 w.all_well_made).0
 
 pub few-held : (c own : Counts) (h d : ℕ) → holding c h d own ≡ true → d ≤ 16
