@@ -32,6 +32,7 @@ impl<'a> Bundle<'a> {
     }
 
     /// What the next record to arrive is read as, with its thread and what its log has behind it, if there is one.
+    #[inline(always)]
     fn peek(&self) -> Option<(usize, Result<Record, Cause>, &'a [u8])>
         ensures { Peeked self.now.counts self.now.logs self.now.arrivals.now self.now.at result }
     {
@@ -56,6 +57,8 @@ impl Feed for Bundle<'_> {
         in_range(self.counts)
     }
 
+    // Hints, here and at `peek`, as for a trace file.
+    #[inline(always)]
     fn next(&mut self) -> Result<Option<Record>, Damage> {
         match self.peek() {
             None => Ok(None),

@@ -24,6 +24,7 @@ pub struct TraceFile<'a> {
 
 impl<'a> TraceFile<'a> {
     /// What the next twelve bytes are read as, with the bytes behind them, if so many are left.
+    #[inline(always)]
     fn peek(&self) -> Option<(Result<Record, Cause>, &'a [u8])>
         ensures { Peeked self.now.counts self.now.records.now self.now.place result }
     {
@@ -53,6 +54,8 @@ impl Feed for TraceFile<'_> {
         in_range(self.counts)
     }
 
+    // Hints, here and at `peek`: what a caller makes of each record then stays in registers.
+    #[inline(always)]
     fn next(&mut self) -> Result<Option<Record>, Damage> {
         match self.peek() {
             None => Ok(None),
