@@ -163,7 +163,7 @@ impl Record {
     /// The record of twelve bytes, or the first cause for which they are none.
     ///
     /// `log` is the thread whose log the bytes stand in, where each thread has a log of its own.
-    // A hint, since every record of a feed comes through here: as a call of its own it makes reading a third dearer.
+    // A hint, since every record of a feed comes through here: as a call of its own it made one caller's reading a third dearer.
     #[inline]
     pub fn decode(bytes: &[u8; 12], counts: Counts, log: Option<u8>) -> Result<Record, Cause>
         ensures { result ≡ decoded counts log bytes.now }
